@@ -1,0 +1,1 @@
+//! Stands for a module that the compared files name and never use.

@@ -1,0 +1,4 @@
+//! What is compared, and on which inputs: shared by the programs beside it.
+
+pub mod fx;
+pub mod inputs;
