@@ -12,7 +12,7 @@ use lib.Signed.{ltZ}
 use Rattle.fx.specs.Cordic.{cordicStart, rightHalf, cordicAngles, cordicSteps, cordicStep}
 use Rattle.fx.specs.Fx.{floorDiv}
 use Rattle.fx.specs.declared.Turn.{Turn}
-use Rattle.laws.proofs.Linear.{size-ud, test-lt, dn, test-le, one-side, dif-ud, neg-ud, sum-ud, up}
+use Rattle.laws.proofs.Linear.{size-ud, test-lt, dn, test-le, not-below, not-above, size-le, dif-ud, neg-ud, sum-ud, up}
 use Rattle.laws.proofs.Size.{abs-neg, abs-mul}
 use Rattle.laws.proofs.Tests.{if-either}
 
@@ -27,8 +27,19 @@ start-within re im b hr hi =
     let x = re *ℤ pos 256 in
     let y = im *ℤ pos 256 in
     if-either (Within b 0) (ltZ x (pos 0)) (record { x = negℤ x; y = negℤ y; z = 2 ^ 31 }) (record { x = x; y = y; z = 0 })
-    (λ e. omega (arith, test-lt x (pos 0) e, one-side x, neg-ud x, size-ud x, abs-neg y, abs-mul re (pos 256), abs-mul im (pos 256)))
-    (λ e. omega (arith, test-le x (pos 0) e, one-side x, size-ud x, abs-mul re (pos 256), abs-mul im (pos 256)))
+    (λ e.
+    let n = not-above x (omega (arith, test-lt x (pos 0) e)) in
+    record {
+      right = omega (arith, neg-ud x, n);
+      far = omega (arith, neg-ud x, size-ud x, abs-mul re (pos 256), div-one (256 * b));
+      low = omega (arith, abs-neg y, abs-mul im (pos 256));
+    })
+    (λ e.
+    record {
+      right = not-below x (omega (arith, test-le x (pos 0) e));
+      far = omega (arith, size-ud x, abs-mul re (pos 256), div-one (256 * b));
+      low = omega (arith, abs-mul im (pos 256));
+    })
 
 -- ---- a step
 -- the floor of a y within B
@@ -54,7 +65,7 @@ lt-pow (suc n) = omega (arith, lt-pow n, pow-suc 2 n)
 
 -- (3 k + n) / m is at most k, for m at least 4 and above n
 third : (k m n : ℕ) → 4 ≤ m → n < m → (3 * k + n) / m ≤ k
-third k m n h l = le-of-suc-le-suc (div-lt-iff-lt-mul {k = m} {x = 3 * k + n} {y = suc k} (omega arith) .mpr (rw (suc-mul k m) (omega (arith, mul-le-mul-left k h))))
+third k m n h l = le-of-suc-le-suc (div-lt-iff-lt-mul {k = m} {x = 3 * k + n} {y = suc k} (omega arith) .1 (rw (suc-mul k m) (omega (arith, mul-le-mul-left k h))))
 
 -- the x of step n, divided, is within 256 b
 near : (b n : ℕ) (x : ℤ) → dn x ≡ 0 → up x + 2 * (256 * b / 2 ^ n) ≤ 768 * b + n → up (floorDiv x (2 ^ n)) ≤ 256 * b
@@ -77,21 +88,25 @@ step-within b n t a w =
     let f = floor-sign x m .0 (w .right) in
     if-either (Within b (suc n)) (ltZ (pos 0) y) _ _
     (λ p.
-      let s = test-lt (pos 0) y p in
-      let g = floor-sign y m .0 (one-side y .0 (omega arith)) in
-      record {
-        right = omega (arith, sum-ud x dx, one-side (x +ℤ dx), w .right);
-        far = omega (arith, sum-ud x dx, one-side (x +ℤ dx), w .right, w .far, floor-up y n (256 * b) (w .low));
-        low = omega (arith, dif-ud y dy, one-side (y -ℤ dy), one-side y, size-ud (y -ℤ dy), size-ud y, w .low);
-      })
+    let s = test-lt (pos 0) y p in
+    let v = not-below y (omega arith) in
+    let g = floor-sign y m .0 v in
+    let r = not-below (x +ℤ dx) (omega (arith, sum-ud x dx, w .right)) in
+    record {
+      right = r;
+      far = omega (arith, sum-ud x dx, w .right, w .far, floor-up y n (256 * b) (w .low));
+      low = size-le (y -ℤ dy) (256 * b) (omega (arith, dif-ud y dy, size-ud y, w .low)) (omega (arith, dif-ud y dy));
+    })
     (λ p.
-      let s = test-le (pos 0) y p in
-      let g = floor-sign y m .1 (omega arith) in
-      record {
-        right = omega (arith, dif-ud x dx, one-side (x -ℤ dx), w .right);
-        far = omega (arith, dif-ud x dx, one-side (x -ℤ dx), w .right, w .far, floor-dn y n (256 * b) (w .low));
-        low = omega (arith, sum-ud y dy, one-side (y +ℤ dy), one-side y, size-ud (y +ℤ dy), size-ud y, w .low);
-      })
+    let s = test-le (pos 0) y p in
+    let v = not-above y (omega arith) in
+    let g = floor-sign y m .1 v in
+    let r = not-below (x -ℤ dx) (omega (arith, dif-ud x dx, w .right)) in
+    record {
+      right = r;
+      far = omega (arith, dif-ud x dx, w .right, w .far, floor-dn y n (256 * b) (w .low));
+      low = size-le (y +ℤ dy) (256 * b) (omega (arith, sum-ud y dy)) (omega (arith, sum-ud y dy, size-ud y, w .low));
+    })
 
 pub steps-within : (b n : ℕ) (t : Turn) → Within b 0 t → Within b n (cordicSteps n t)
 unfolding cordicSteps

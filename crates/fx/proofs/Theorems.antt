@@ -67,9 +67,9 @@ clamped lo hi v h =
     if-either (Saturates lo hi v) (ltZ v lo) lo (if ltZ hi v then hi else v)
     (λ e. record { low = ≤ℤ-refl lo; high = h; inside = λ p q. eq-ud lo v (omega (arith, ud-le p, test-lt v lo e)) })
     (λ e.
-      if-either (Saturates lo hi v) (ltZ hi v) hi v
-      (λ f. record { low = h; high = ≤ℤ-refl hi; inside = λ p q. eq-ud hi v (omega (arith, ud-le q, test-lt hi v f)) })
-      (λ f. record { low = le-ud lo v (omega (arith, test-le v lo e)); high = le-ud v hi (omega (arith, test-le hi v f)); inside = λ p q. refl }))
+    if-either (Saturates lo hi v) (ltZ hi v) hi v
+    (λ f. record { low = h; high = ≤ℤ-refl hi; inside = λ p q. eq-ud hi v (omega (arith, ud-le q, test-lt hi v f)) })
+    (λ f. record { low = le-ud lo v (omega (arith, test-le v lo e)); high = le-ud v hi (omega (arith, test-le hi v f)); inside = λ p q. refl }))
 
 pub sat16-theorem : (v : ℤ) → Saturates (minus 32768) (pos 32767) v (sat16Of v)
 unfolding sat16Of

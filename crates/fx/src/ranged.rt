@@ -1,8 +1,8 @@
 // The functions of this crate that crates above call with arguments in range: plain values, by the entries' own definitions.
-use crate::{CosSin, Polar};
+use crate::CosSin;
+use crate::Polar;
 use crate::sizes;
 use crate::turns;
-
 ghost use mathlib.Core.Path.{_≡_};
 ghost use Prim.Native.Nat.{_+_, _≤_, _<_, _^_};
 ghost use lib.IntN.{pos, natAbs};
@@ -84,5 +84,8 @@ pub fn cos_sin_round(table: &[i16], a: u32) -> CosSin
     requires { ⌜ length (now table) ≡ 1024 ⌝ }
     ensures { λ r. ⌜ r ≡ cosSinAt (now (table .entry)) (roundIndex a) ⌝ }
 {
-    turns::cos_sin_at(table, (std::num::wrapping_add_u32(a, 0x20_0000) / 0x40_0000) as usize)
+    turns::cos_sin_at(
+        table,
+        (std::num::wrapping_add_u32(a, 0x20_0000) / 0x40_0000) as usize,
+    )
 }

@@ -1,7 +1,8 @@
 // The CORDIC's steps, the shift into its range, and the carrier table.
-use crate::{CosSin, Parts, Turn};
+use crate::CosSin;
+use crate::Parts;
+use crate::Turn;
 use crate::sizes;
-
 ghost use mathlib.Core.Path.{_≡_};
 ghost use Prim.Native.Nat.{_+_, _-_, _%_, _≤_, _<_, _^_};
 ghost use lib.IntN.{natAbs, _+ℤ_, _-ℤ_};
@@ -53,11 +54,7 @@ fn moved(plus: bool, v: i64, d: i64) -> i64
     requires { ⌜ (natAbs v ≤ 2 ^ 61) × (natAbs d ≤ 2 ^ 61) ⌝ }
     ensures { λ r. ⌜ r ≡ (if plus then v +ℤ d else v -ℤ d) ⌝ }
 {
-    if plus {
-        v + d
-    } else {
-        v - d
-    }
+    if plus { v + d } else { v - d }
 }
 
 fn swung(plus: bool, z: u32, a: u32) -> u32

@@ -45,6 +45,19 @@ pub one-side : (z : ℤ) → (0 < up z → dn z ≡ 0) × (0 < dn z → up z ≡
 one-side (pos a) = (λ h. refl, omega arith)
 one-side (negsuc a) = (omega arith, λ h. refl)
 
+-- which side is 0, and the size, from a bound on the two
+pub not-below : (z : ℤ) → dn z ≤ up z → dn z ≡ 0
+not-below (pos a) h = refl
+not-below (negsuc a) h = omega arith
+
+pub not-above : (z : ℤ) → up z ≤ dn z → up z ≡ 0
+not-above (pos a) h = omega arith
+not-above (negsuc a) h = refl
+
+pub size-le : (z : ℤ) (b : ℕ) → up z ≤ dn z + b → dn z ≤ up z + b → natAbs z ≤ b
+size-le (pos a) b h k = omega arith
+size-le (negsuc a) b h k = omega arith
+
 -- ---- equality and order
 pub eq-ud : (a b : ℤ) → up a + dn b ≡ up b + dn a → a ≡ b
 eq-ud (pos a) (pos b) h = ap pos (omega arith)

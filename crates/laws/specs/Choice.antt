@@ -6,7 +6,6 @@ use lib.IntN.{ℤ, pos, negℤ}
 use borrow.Author.Tests.{lt-ltb, le-ltb, le-leb, lt-leb, eq-eqb, ne-eqb}
 
 infixr 5 if_then_else_
-
 -- the first where the test holds, else the second; shut, so that a goal keeps its tests
 unfoldable pub if_then_else_ : {A : Type 0} → Bool → A → A → A
 if_then_else_ true a b = a

@@ -16,7 +16,6 @@ use Rattle.fx.proofs.div_round.Tie as tie
 wide2-requires : tie.Need-wide2-requires
 wide2-requires c κs = search needs
 
-
 tested : (c : tie.After-wide2) → c .wide2 .result ≡ (wide (c .before .before .args .a) || wide (c .before .before .args .b))
 tested c = rw (toZ-ofZ (c .before .before .fits .a), toZ-ofZ (c .before .before .fits .b)) at (c .wide2 .ensures)
 
