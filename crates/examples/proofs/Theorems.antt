@@ -1,0 +1,11 @@
+-- Every starred example of document 01 holds of the definitions that the contracts cite. By computation; assumes nothing.
+use mathlib.Core.List.{map}
+use mathlib.Core.Path.{_≡_, refl}
+use Rattle.laws.specs.Choice as choice
+use Rattle.fx.specs.Fx.{roundShift, divRound, magApprox}
+use Rattle.fx.specs.Cordic.{cordicAngles, rightHalf, cordicStart, cordicStep, cordicSteps, cordicOf}
+use Rattle.examples.specs.Worked.{Example, worked}
+
+pub worked-right : map (λ (e : Example). e .given) worked ≡ map (λ (e : Example). e .said) worked
+unfolding worked roundShift divRound magApprox cordicAngles rightHalf cordicStart cordicStep cordicSteps cordicOf choice.if_then_else_
+worked-right = refl
