@@ -9,7 +9,8 @@ mkdir -p "$out/fast"
 
 # The measured Rust is a plain release build; lto takes its function into the uninlined one that is called.
 originals "$out/fast"
-program "$out/fast" bench_fx.rs "$out/bench_fx" -C lto=fat $(with_port "$port")
+with_port "$port"
+program "$out/fast" bench_fx.rs "$out/bench_fx" -C lto=fat "${port_flags[@]}"
 "$out/bench_fx" time
 
 # instructions FUNCTION SIDE: of the whole run

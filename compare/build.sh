@@ -9,5 +9,6 @@ out=${1:-$root/target/compare}
 # The compared Rust stops where it would overflow, so that no wrapped number passes for its answer.
 mkdir -p "$out/checked"
 originals "$out/checked" -C overflow-checks=on -C debug-assertions=on
-program "$out/checked" main.rs "$out/compare" $(with_port "$port")
+with_port "$port"
+program "$out/checked" main.rs "$out/compare" "${port_flags[@]}"
 program "$out/checked" vectors.rs "$out/vectors"

@@ -71,7 +71,7 @@ program() {
     rustc --edition 2021 -C opt-level=3 -L "$libs" --extern isdbs3_phy --extern cases -o "$exe" "$@" "$here/src/$file"
 }
 
-# with_port DIR: the flags that link the port's archive in DIR
+# with_port DIR: sets port_flags, which link the port's archive in DIR
 with_port() {
-    echo "-L native=$1 -l static=c_api"
+    port_flags=(-L "native=$1" -l static=c_api)
 }

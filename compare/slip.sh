@@ -13,7 +13,8 @@ rustc --edition 2021 --crate-type lib --crate-name stand_in -C opt-level=3 -C co
     -L "$out/libs" --extern isdbs3_phy --extern cases -o "$out/stand_in.o" "$here/slip/stand_in.rs"
 rm -f "$out/libc_api.a"
 ar crs "$out/libc_api.a" "$out/stand_in.o"
-program "$out/libs" main.rs "$out/compare" $(with_port "$out")
+with_port "$out"
+program "$out/libs" main.rs "$out/compare" "${port_flags[@]}"
 
 "$out/compare" --quick >"$out/log" || { cat "$out/log"; echo "slip.sh: a difference without a slip"; exit 1; }
 echo "no slip: $(tail -n 1 "$out/log")"

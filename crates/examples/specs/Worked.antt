@@ -1,4 +1,4 @@
--- Document 01, "Worked examples": those with a star, each as what a definition gives beside what the document says.
+-- Document 01, "Bench values": those with a star, each as what a definition gives beside what the document says.
 use mathlib.Core.List.{List, [], _∷_}
 use lib.IntN.{ℤ, pos}
 use Rattle.laws.specs.Choice.{minus}

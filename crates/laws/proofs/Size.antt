@@ -1,16 +1,16 @@
 -- Sizes of integers, as facts on natural numbers that `omega` reads; what fits a machine number; and a calculus of machine numbers with a
 -- size, by which a chain of signed operations is one term. Assumes nothing.
 use mathlib.Core.Path.{_≡_, refl, sym, ap, ap₂, _∙_}
-use mathlib.Core.Bool.{Bool, true, false, cond}
+use mathlib.Core.Bool.{Bool, true, false, cond, _&&_}
 use Prim.Native.Nat.{ℕ, zero, suc, _+_, _-_, _*_, _/_, _%_, _^_, _≤_, _<_, max}
 use native.Mathlib.Omega.{arith}
 use native.Mathlib.Nat.{le-refl, le-suc, div-le-self, mul-le-mul, one-mul, zero-add, mod-eq-of-lt, lt-trans}
 use native.Mathlib.Numerals.{add-one}
-use borrow.Author.Tests.{ltb-true, ltb-false}
+use borrow.Author.Tests.{ltb-true, ltb-false, leb-true, leb-false, le-leb, lt-leb}
 use lib.Dec.{T, ltb, leb, ltb→lt, lit<}
 use lib.IntN.{ℤ, pos, negsuc, negℤ, natAbs, _+ℤ_, _-ℤ_, _*ℤ_, +ℤ-one, +ℤ-idl}
 use lib.Pow.{pow-lt}
-use lib.Signed.{mag, ltZ, shrZ, nonNeg, mag-shr}
+use lib.Signed.{mag, ltZ, leZ, shrZ, nonNeg, mag-shr}
 use mir.Syntax.{Width, w32, w64}
 use mir.Val.{SFits, hbits, toZ, ofZ}
 use mir.ValLaws.{sfits-le}
@@ -165,3 +165,16 @@ times {a = a} {b = b} m n = record { is = ap₂ _*ℤ_ (m .is) (n .is); size = r
 
 pub shr : {x a : ℤ} {A : ℕ} → Num x a A → (m : ℕ) → Num (shrZ x m) (shrZ a m) A
 shr {a = a} n m = record { is = ap (λ (z : ℤ). shrZ z m) (n .is); size = omega (arith, n .size, abs-shr a m) }
+
+-- ---- both ends of a range that is the same on both sides are one test of the size
+and-true : (t : Bool) → (t && true) ≡ t
+and-true true = refl
+and-true false = refl
+
+pub within-abs : (z : ℤ) (b : ℕ) → (leZ (negsuc b) z && leZ z (pos (suc b))) ≡ leb (natAbs z) (suc b)
+within-abs (pos a) b = refl
+within-abs (negsuc a) b = and-true (leb a b) ∙ same (leb a b) refl
+  where
+    same : (t : Bool) → leb a b ≡ t → leb a b ≡ leb (suc a) (suc b)
+    same true e = e ∙ sym (le-leb (suc a) (suc b) (omega (arith, leb-true a b e)))
+    same false e = e ∙ sym (lt-leb (suc a) (suc b) (omega (arith, leb-false a b e)))

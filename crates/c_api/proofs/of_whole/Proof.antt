@@ -1,0 +1,25 @@
+-- `c_api::of_whole` meets its contract. Assumes nothing.
+use mir.Val.{SFits}
+use mir.Syntax.{w64}
+use mir.Facts.{toZ-ofZ}
+use borrow.Author.Needs.{needs}
+use Rattle.c_api.specs.Api.{number}
+use Rattle.c_api.proofs.of_whole.Statement.{statement}
+use Rattle.c_api.proofs.of_whole.Tie as tie
+
+enum-known-a : tie.Need-enum-known-a
+enum-known-a c = search needs
+
+enum-known-a-2 : tie.Need-enum-known-a-2
+enum-known-a-2 c = search needs
+
+returns : tie.Need-returns
+unfolding number
+returns c = let f : SFits w64 (c .before .a .given .0 .0) = search needs in rw (toZ-ofZ f, c .before .a .given .1)
+
+returns-2 : tie.Need-returns-2
+unfolding number
+returns-2 c = rw (c .before .a2 .given .1)
+
+pub of-whole-spec : {M : Type 1} → statement M
+of-whole-spec = tie.close (tie.spec enum-known-a enum-known-a-2 returns returns-2)

@@ -1,0 +1,2 @@
+-- How answers cross to C: docs/DECISIONS.md, F.3.
+pub mod Api
