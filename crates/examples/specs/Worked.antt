@@ -10,7 +10,6 @@ pub record Example : Type 0 where
   pub said : ℤ
 
 infix 4 _is_
-
 abbrev pub _is_ : ℤ → ℤ → Example
 given is said = record { given = given; said = said }
 
