@@ -106,21 +106,26 @@ impl Subject {
     }
 }
 
-fn least_ns(run: Run, table: &[i16], inputs: &[Pair]) -> f64 {
-    let once = |_| {
-        let start = Instant::now();
-        black_box(run(table, black_box(inputs)));
-        start.elapsed().as_nanos()
-    };
-    (0..200).map(once).min().unwrap_or(0) as f64 / inputs.len() as f64
+fn ns(run: Run, table: &[i16], inputs: &[Pair]) -> f64 {
+    let start = Instant::now();
+    black_box(run(table, black_box(inputs)));
+    start.elapsed().as_nanos() as f64 / inputs.len() as f64
+}
+
+/// The least of many runs of each side, taken in turns, so that a load on the machine meets both.
+fn least_ns(sides: [Run; 2], table: &[i16], inputs: &[Pair]) -> [f64; 2] {
+    (0..1_000).fold([f64::MAX; 2], |[a, b], _| {
+        let [x, y] = sides.map(|run| ns(run, table, inputs));
+        [a.min(x), b.min(y)]
+    })
 }
 
 fn time(table: &[i16]) {
     println!("{:14} {:>9} {:>9} {:>6}", "ns a call", "Rust", "port", "ratio");
     for subject in &SUBJECTS {
-        let inputs = subject.inputs(10_000);
+        let inputs = subject.inputs(2_000);
         assert_eq!((subject.rust)(table, &inputs), (subject.port)(table, &inputs), "{}: the sums differ", subject.name);
-        let [rust, port] = [subject.rust, subject.port].map(|run| least_ns(run, table, &inputs));
+        let [rust, port] = least_ns([subject.rust, subject.port], table, &inputs);
         println!("{:14} {rust:9.2} {port:9.2} {:6.2}", subject.name, port / rust);
     }
 }
