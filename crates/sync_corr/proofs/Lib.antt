@@ -1,0 +1,2 @@
+-- Laws of the correlation.
+pub mod Laws

@@ -1,0 +1,2 @@
+-- Laws of the heads.
+pub mod Laws
