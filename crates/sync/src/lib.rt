@@ -52,9 +52,9 @@ pub fn push(s: SlotSync, i: i16, q: i16, f: [i8; 48], w: [i8; 48], acc: &mut [u3
     ensures { λ r. ⌜ (r ≡ pushAnswer s i q f w (now (acc .entry))) × (now (acc .exit) ≡ pushAcc s i q f w (now (acc .entry))) ⌝ }
 {
     let r = s.run;
-    let n = stores::push_refusal(acc.len(), &f, &w, r);
+    let n = ranged::push_refusal(acc.len(), &f, &w, r);
     if n == 0 {
-        stores::accepted(s, i, q, &f, &w, acc)
+        ranged::accepted(s, i, q, &f, &w, acc)
     } else {
         stores::refused(n, s)
     }

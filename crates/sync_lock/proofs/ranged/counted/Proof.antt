@@ -1,33 +1,27 @@
-use mathlib.Core.Bool.{true}
-use mathlib.Core.Path.{_≡_, refl, sym, _∙_}
-use Prim.Native.Nat.{ℕ, _+_}
-use native.Mathlib.Nat.{zero-add}
-use lib.Dec.{ltb}
-use borrow.Author.Tests.{ltb-false}
+use Prim.Native.Nat.{_+_, ℕ}
 use Rattle.laws.proofs.Tests.{if-either}
-use Rattle.sync_lock.specs.declared.Tally.{Tally}
 use Rattle.laws.specs.Choice.{cases, if-yes}
-use native.Mathlib.Omega.{arith}
-use Rattle.sync_lock.specs.Period.{countedOf, addedOf, noTally}
+use Rattle.sync_lock.specs.Period.{addedOf, countedOf, noTally}
+use Rattle.sync_lock.specs.declared.Tally.{Tally}
 use borrow.Author.Needs.{needs}
+use borrow.Author.Tests.{ltb-false}
+use lib.Dec.{ltb}
+use mathlib.Core.Bool.{true}
+use mathlib.Core.Path.{_∙_, _≡_, refl, sym}
+use native.Mathlib.Nat.{zero-add}
+use native.Mathlib.Omega.{arith}
 use Rattle.sync_lock.proofs.ranged.counted.Statement.{statement}
 use Rattle.sync_lock.proofs.ranged.counted.Tie as tie
-use Rattle.sync_lock.proofs.ranged.counted.Reads as reads
-use Rattle.sync_lock.proofs.ranged.counted.Lts as lts
 
--- src/ranged.rt:31:20
 cast-t9 : tie.Need-cast-t9
 cast-t9 c = search needs
 
--- src/ranged.rt:32:18
 add-t11 : tie.Need-add-t11
 add-t11 c = search needs
 
--- src/ranged.rt:38:18
 add-t13 : tie.Need-add-t13
 add-t13 c = search needs
 
--- src/ranged.rt:18:1
 -- at position 0 the accumulator itself is the peak, 0 too
 first : (a : ℕ) → record { peak = a; place = 0; sum = a } ≡ addedOf noTally 0 a
 unfolding addedOf noTally
@@ -43,12 +37,10 @@ returns c =
     let h : c .before .args .p ≡ 0 = search needs in
     first (c .before .args .a) ∙ rw h (sym (if-yes true (addedOf noTally 0 (c .before .args .a)) (addedOf (c .before .args .t) 0 (c .before .args .a)) refl))
 
--- src/ranged.rt:18:1
 returns-2 : tie.Need-returns-2
 unfolding countedOf addedOf
 returns-2 c = search cases
 
--- src/ranged.rt:18:1
 returns-3 : tie.Need-returns-3
 unfolding countedOf addedOf
 returns-3 c = search cases

@@ -1,25 +1,18 @@
 use Rattle.laws.specs.Choice.{cases}
-use native.Mathlib.Omega.{arith}
 use Rattle.sync_lock.specs.Period.{countsOf}
 use borrow.Author.Needs.{needs}
 use Rattle.sync_lock.proofs.ranged.counts.Statement.{statement}
 use Rattle.sync_lock.proofs.ranged.counts.Tie as tie
-use Rattle.sync_lock.proofs.ranged.counts.Reads as reads
-use Rattle.sync_lock.proofs.ranged.counts.Lts as lts
 
--- src/ranged.rt:47:21
 mul-result : tie.Need-mul-result
 mul-result c = search needs
 
--- src/ranged.rt:47:35
 cast-result : tie.Need-cast-result
 cast-result c = search needs
 
--- src/ranged.rt:47:34
 mul-result-2 : tie.Need-mul-result-2
 mul-result-2 c = search needs
 
--- src/ranged.rt:43:1
 returns : tie.Need-returns
 unfolding countsOf
 returns c = search cases

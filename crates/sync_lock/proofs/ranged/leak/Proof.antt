@@ -1,25 +1,18 @@
 use Rattle.laws.specs.Choice.{cases}
-use native.Mathlib.Omega.{arith}
 use Rattle.sync_lock.specs.Period.{leakOf}
 use borrow.Author.Needs.{needs}
 use Rattle.sync_lock.proofs.ranged.leak.Statement.{statement}
 use Rattle.sync_lock.proofs.ranged.leak.Tie as tie
-use Rattle.sync_lock.proofs.ranged.leak.Reads as reads
-use Rattle.sync_lock.proofs.ranged.leak.Lts as lts
 
--- src/ranged.rt:14:7
 mul-result : tie.Need-mul-result
 mul-result c = search needs
 
--- src/ranged.rt:14:7
 add-result : tie.Need-add-result
 add-result c = search needs
 
--- src/ranged.rt:14:5
 cast-result : tie.Need-cast-result
 cast-result c = search needs
 
--- src/ranged.rt:11:1
 returns : tie.Need-returns
 unfolding leakOf
 returns c = search cases

@@ -1,44 +1,33 @@
 use Rattle.laws.specs.Choice.{cases}
-use native.Mathlib.Omega.{arith}
 use Rattle.sync_lock.specs.Rule.{lockAfter}
 use borrow.Author.Needs.{needs}
 use Rattle.sync_lock.proofs.ranged.lock_after.Statement.{statement}
 use Rattle.sync_lock.proofs.ranged.lock_after.Tie as tie
-use Rattle.sync_lock.proofs.ranged.lock_after.Reads as reads
-use Rattle.sync_lock.proofs.ranged.lock_after.Lts as lts
 
--- src/ranged.rt:108:26
 enum-known-v : tie.Need-enum-known-v
 enum-known-v c = search needs
 
--- src/ranged.rt:109:26
 enum-known-v-2 : tie.Need-enum-known-v-2
 enum-known-v-2 c = search needs
 
--- src/ranged.rt:110:26
 enum-known-v-3 : tie.Need-enum-known-v-3
 enum-known-v-3 c = search needs
 
--- src/ranged.rt:111:27
 enum-told : tie.Need-enum-told
 enum-told c = search needs
 
--- src/ranged.rt:104:1
 returns : tie.Need-returns
 unfolding lockAfter
 returns c = rw (c .before .v .given .1)
 
--- src/ranged.rt:104:1
 returns-2 : tie.Need-returns-2
 unfolding lockAfter
 returns-2 c = rw (c .before .v2 .given .1)
 
--- src/ranged.rt:104:1
 returns-3 : tie.Need-returns-3
 unfolding lockAfter
 returns-3 c = rw (c .before .v3 .given .1)
 
--- src/ranged.rt:104:1
 returns-4 : tie.Need-returns-4
 unfolding lockAfter
 returns-4 c = search cases

@@ -1,26 +1,18 @@
-use Rattle.laws.specs.Choice.{cases}
-use native.Mathlib.Omega.{arith}
 use Rattle.sync_lock.specs.Ranges.{lockInRange}
 use borrow.Author.Needs.{needs}
 use Rattle.sync_lock.proofs.ranged.lock_in_range.Statement.{statement}
 use Rattle.sync_lock.proofs.ranged.lock_in_range.Tie as tie
-use Rattle.sync_lock.proofs.ranged.lock_in_range.Reads as reads
-use Rattle.sync_lock.proofs.ranged.lock_in_range.Lts as lts
 
--- src/ranged.rt:135:24
 enum-known-k : tie.Need-enum-known-k
 enum-known-k c = search needs
 
--- src/ranged.rt:136:24
 enum-known-k-2 : tie.Need-enum-known-k-2
 enum-known-k-2 c = search needs
 
--- src/ranged.rt:131:1
 returns : tie.Need-returns
 unfolding lockInRange
 returns c = rw (c .before .k .given .1)
 
--- src/ranged.rt:131:1
 returns-2 : tie.Need-returns-2
 unfolding lockInRange
 returns-2 c = rw (c .before .k2 .given .1)

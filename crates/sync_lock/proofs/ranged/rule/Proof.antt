@@ -1,41 +1,28 @@
-use Rattle.laws.specs.Choice.{cases}
-use native.Mathlib.Omega.{arith}
+use Rattle.laws.proofs.Size.{at}
 use Rattle.sync_lock.specs.Rule.{ruleOf}
 use borrow.Author.Needs.{needs}
 use Rattle.sync_lock.proofs.ranged.rule.Statement.{statement}
 use Rattle.sync_lock.proofs.ranged.rule.Tie as tie
-use Rattle.sync_lock.proofs.ranged.rule.Reads as reads
-use Rattle.sync_lock.proofs.ranged.rule.Lts as lts
-use Rattle.sync_lock.proofs.ranged.counts.Reads as counts-reads
-use Rattle.sync_lock.proofs.ranged.held.Reads as held-reads
-use Rattle.sync_lock.proofs.ranged.search.Reads as search-reads
 
--- src/ranged.rt:96:9
 counts-requires : tie.Need-counts-requires
 counts-requires c κs = search needs
 
--- src/ranged.rt:98:24
 enum-known-k : tie.Need-enum-known-k
 enum-known-k c = search needs
 
--- src/ranged.rt:98:41
 search-requires : tie.Need-search-requires
 search-requires c κs = rw (c .before .k .given .1) at (c .before .before .before .before .pre .0)
 
--- src/ranged.rt:99:24
 enum-known-k-2 : tie.Need-enum-known-k-2
 enum-known-k-2 c = search needs
 
--- src/ranged.rt:99:44
 held-requires : tie.Need-held-requires
 held-requires c κs = rw (c .before .before .k2 .given .1) at (c .before .before .before .before .before .pre .0)
 
--- src/ranged.rt:92:1
 returns : tie.Need-returns
 unfolding ruleOf
 returns c = rw (c .before .before .k .given .1, c .search .ensures, c .before .before .before .before .counts .ensures)
 
--- src/ranged.rt:92:1
 returns-2 : tie.Need-returns-2
 unfolding ruleOf
 returns-2 c = rw (c .before .before .before .k2 .given .1, c .held .ensures, c .before .before .before .before .before .counts .ensures)

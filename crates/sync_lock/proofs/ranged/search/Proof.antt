@@ -1,23 +1,16 @@
 use Rattle.laws.specs.Choice.{cases}
-use native.Mathlib.Omega.{arith}
 use Rattle.sync_lock.specs.Rule.{searchOf}
 use borrow.Author.Needs.{needs}
 use Rattle.sync_lock.proofs.ranged.search.Statement.{statement}
 use Rattle.sync_lock.proofs.ranged.search.Tie as tie
-use Rattle.sync_lock.proofs.ranged.search.Reads as reads
-use Rattle.sync_lock.proofs.ranged.search.Lts as lts
-use Rattle.sync_lock.proofs.ranged.sought.Reads as sought-reads
 
--- src/ranged.rt:70:9
 sought-requires : tie.Need-sought-requires
 sought-requires c κs = search needs
 
--- src/ranged.rt:66:1
 returns : tie.Need-returns
 unfolding searchOf
 returns c = rw (← (c .before .sought .ensures .0)) (search cases)
 
--- src/ranged.rt:66:1
 returns-2 : tie.Need-returns-2
 unfolding searchOf
 returns-2 c = rw (← (c .before .sought .ensures .0)) (search cases)

@@ -1,44 +1,33 @@
 use Rattle.laws.specs.Choice.{cases}
-use native.Mathlib.Omega.{arith}
 use Rattle.sync_step.specs.Step.{losesOf}
 use borrow.Author.Needs.{needs}
 use Rattle.sync_step.proofs.ends.loses.Statement.{statement}
 use Rattle.sync_step.proofs.ends.loses.Tie as tie
-use Rattle.sync_step.proofs.ends.loses.Reads as reads
-use Rattle.sync_step.proofs.ends.loses.Lts as lts
 
--- src/ends.rt:181:49
 enum-told : tie.Need-enum-told
 enum-told c = search needs
 
--- src/ends.rt:182:41
 enum-told-2 : tie.Need-enum-told-2
 enum-told-2 c = search needs
 
--- src/ends.rt:183:52
 enum-told-3 : tie.Need-enum-told-3
 enum-told-3 c = search needs
 
--- src/ends.rt:184:27
 enum-told-4 : tie.Need-enum-told-4
 enum-told-4 c = search needs
 
--- src/ends.rt:177:1
 returns : tie.Need-returns
 unfolding losesOf
 returns c = search cases
 
--- src/ends.rt:177:1
 returns-2 : tie.Need-returns-2
 unfolding losesOf
 returns-2 c = search cases
 
--- src/ends.rt:177:1
 returns-3 : tie.Need-returns-3
 unfolding losesOf
 returns-3 c = search cases
 
--- src/ends.rt:177:1
 returns-4 : tie.Need-returns-4
 unfolding losesOf
 returns-4 c = search cases

@@ -2,8 +2,8 @@
 use Rattle.laws.specs.Choice.{cases}
 use Rattle.sync.specs.Answers.{pushRefusal}
 use borrow.Author.Needs.{needs}
-use Rattle.sync.proofs.stores.push_refusal.Statement.{statement}
-use Rattle.sync.proofs.stores.push_refusal.Tie as tie
+use Rattle.sync.proofs.ranged.push_refusal.Statement.{statement}
+use Rattle.sync.proofs.ranged.push_refusal.Tie as tie
 
 ones-requires : tie.Need-ones-requires
 ones-requires c κs = search needs

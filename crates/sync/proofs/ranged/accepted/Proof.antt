@@ -12,8 +12,8 @@ use mathlib.Core.List.{List}
 use mathlib.Core.Path.{_∙_, _≡_, ap}
 use mir.Facts.{toZ-ofZ}
 use native.Mathlib.Omega.{arith}
-use Rattle.sync.proofs.stores.accepted.Statement.{statement}
-use Rattle.sync.proofs.stores.accepted.Tie as tie
+use Rattle.sync.proofs.ranged.accepted.Statement.{statement}
+use Rattle.sync.proofs.ranged.accepted.Tie as tie
 
 shift-requires : tie.Need-shift-requires
 shift-requires c κs = search needs
