@@ -6,3 +6,4 @@ pub mod Locks
 pub mod Rule
 pub mod Runs
 pub mod Theorems
+pub mod Marks

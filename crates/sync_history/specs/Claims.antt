@@ -5,7 +5,7 @@ use Rattle.sync_lock.specs.declared.Lock.{Lock}
 use Rattle.sync_lock.specs.declared.Lock.the-variants.{Search, Locked}
 use Rattle.sync_lock.specs.declared.Verdict.the-variants.{Loses}
 use Rattle.sync_lock.specs.Rule.{ruleOf, lockAfter}
-use Rattle.sync_history.specs.History.{accAfter, figuresTo, figures, CountsAt, endOf, LockIn, LockOn, LockBy, Eighth, LossBy, Premise}
+use Rattle.sync_history.specs.History.{accAfter, figuresTo, figures, LockIn, LockOn, LockBy, Eighth, LossBy}
 
 -- ---- the figures mean what they say
 pub record FirstGreatest (f : ℕ → ℕ) (m : ℕ) : Type 0 where
