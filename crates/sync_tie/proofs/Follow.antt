@@ -46,22 +46,22 @@ module _ (n base : ℕ) (last : Record) (h : List Push) where
   periods-there c i z l ne =
       by-test (endsAt n base last h c)
       (λ e.
-        let p = ends-place n base last h c e in
-        let d = next-end n c z p in
-        if-no (ltb i (suc c % n)) (suc (suc c / n)) (suc c / n) (le-ltb i (suc c % n) (omega (arith, d .1)))
-        ∙ d .0
-        ∙ sym (if-yes (ltb i (c % n)) (suc (c / n)) (c / n) (lt-ltb i (c % n) (omega (arith, p, ne)))))
+      let p = ends-place n base last h c e in
+      let d = next-end n c z p in
+      if-no (ltb i (suc c % n)) (suc (suc c / n)) (suc c / n) (le-ltb i (suc c % n) (omega (arith, d .1)))
+      ∙ d .0
+      ∙ sym (if-yes (ltb i (c % n)) (suc (c / n)) (c / n) (lt-ltb i (c % n) (omega (arith, p, ne)))))
       (λ e.
-        let d = next-in n c z (inside-place n base last h c z e) in
-        by-test (ltb i (c % n))
-        (λ b.
-          if-yes (ltb i (suc c % n)) (suc (suc c / n)) (suc c / n) (lt-ltb i (suc c % n) (omega (arith, d .1, ltb-true i (c % n) b)))
-          ∙ ap suc (d .0)
-          ∙ sym (if-yes (ltb i (c % n)) (suc (c / n)) (c / n) b))
-        (λ b.
-          if-no (ltb i (suc c % n)) (suc (suc c / n)) (suc c / n) (le-ltb i (suc c % n) (omega (arith, d .1, ltb-false i (c % n) b, ne)))
-          ∙ d .0
-          ∙ sym (if-no (ltb i (c % n)) (suc (c / n)) (c / n) b)))
+      let d = next-in n c z (inside-place n base last h c z e) in
+      by-test (ltb i (c % n))
+      (λ b.
+      if-yes (ltb i (suc c % n)) (suc (suc c / n)) (suc c / n) (lt-ltb i (suc c % n) (omega (arith, d .1, ltb-true i (c % n) b)))
+      ∙ ap suc (d .0)
+      ∙ sym (if-yes (ltb i (c % n)) (suc (c / n)) (c / n) b))
+      (λ b.
+      if-no (ltb i (suc c % n)) (suc (suc c / n)) (suc c / n) (le-ltb i (suc c % n) (omega (arith, d .1, ltb-false i (c % n) b, ne)))
+      ∙ d .0
+      ∙ sym (if-no (ltb i (c % n)) (suc (c / n)) (c / n) b)))
 
   -- ---- one push more
   pub pushed-is : (x : Held) (p : Push) (st : Step) → stepOn n x p ≡ st →
@@ -122,11 +122,11 @@ module _ (n base : ℕ) (last : Record) (h : List Push) where
       stored c x i z b f =
           by-test (eqb i (c % n))
           (λ t.
-            let q : i ≡ c % n = eqb-true i (c % n) t in
-            rw q (getD-set-same (x .acc) (c % n) (levelAt n base last h c) 0 (omega (arith, f .long, place-less n c z)) ∙ ap (accAfter n (sizeAt h) 0 (c % n)) (sym (periods-here c z))))
+          let q : i ≡ c % n = eqb-true i (c % n) t in
+          rw q (getD-set-same (x .acc) (c % n) (levelAt n base last h c) 0 (omega (arith, f .long, place-less n c z)) ∙ ap (accAfter n (sizeAt h) 0 (c % n)) (sym (periods-here c z))))
           (λ t.
-            let q = eqb-false i (c % n) t in
-            getD-set-other (x .acc) (c % n) i (levelAt n base last h c) 0 q ∙ f .accs i b ∙ ap (accAfter n (sizeAt h) 0 i) (sym (periods-there c i z b q)))
+          let q = eqb-false i (c % n) t in
+          getD-set-other (x .acc) (c % n) i (levelAt n base last h c) 0 q ∙ f .accs i b ∙ ap (accAfter n (sizeAt h) 0 i) (sym (periods-there c i z b q)))
 
       grown : (c : ℕ) (y : Tally) → 0 < n → (0 < c % n → y ≡ figuresTo (running n base last h (c / n)) (c % n)) → 0 < suc c % n →
           countedOf y (c % n) (levelAt n base last h c) ≡ figuresTo (running n base last h (suc c / n)) (suc c % n)
@@ -160,16 +160,16 @@ module _ (n base : ℕ) (last : Record) (h : List Push) where
       let f : Follows n base last h m (m - 23) x = follows m z (omega arith) (λ c b. k c (omega arith)) in
       by-test (ltb m 23)
       (λ t.
-        let b = ltb-true m 23 t in
-        let e : m - 23 ≡ 0 = omega arith in
-        let e' : suc m - 23 ≡ 0 = omega arith in
-        rw e' (early m x p b (omega arith) refl (rw e at f)))
+      let b = ltb-true m 23 t in
+      let e : m - 23 ≡ 0 = omega arith in
+      let e' : suc m - 23 ≡ 0 = omega arith in
+      rw e' (early m x p b (omega arith) refl (rw e at f)))
       (λ t.
-        let b = ltb-false m 23 t in
-        let c = m - 23 in
-        let e : m ≡ m - 23 + 23 = omega arith in
-        let e' : suc m - 23 ≡ suc (m - 23) = omega arith in
-        let g : Follows n base last h (m - 23 + 23) (m - 23) x = subst (λ (j : ℕ). Follows n base last h j (m - 23) x) e f in
-        let q : getD h (m - 23 + 23) noPush ≡ p = ap (λ (j : ℕ). getD h j noPush) (sym e) in
-        let u = late (m - 23) x p z (omega arith) q (k (m - 23) (omega arith)) g in
-        rw e' (subst (λ (j : ℕ). Follows n base last h (suc j) (suc (m - 23)) (pushOn n x p)) (sym e) u))
+      let b = ltb-false m 23 t in
+      let c = m - 23 in
+      let e : m ≡ m - 23 + 23 = omega arith in
+      let e' : suc m - 23 ≡ suc (m - 23) = omega arith in
+      let g : Follows n base last h (m - 23 + 23) (m - 23) x = subst (λ (j : ℕ). Follows n base last h j (m - 23) x) e f in
+      let q : getD h (m - 23 + 23) noPush ≡ p = ap (λ (j : ℕ). getD h j noPush) (sym e) in
+      let u = late (m - 23) x p z (omega arith) q (k (m - 23) (omega arith)) g in
+      rw e' (subst (λ (j : ℕ). Follows n base last h (suc j) (suc (m - 23)) (pushOn n x p)) (sym e) u))

@@ -150,9 +150,9 @@ module _ (n base : ℕ) (last : Record) (h : List Push) where
       (λ b. ap (λ (s : Step). s .events) (is-lost-in c y a b) ∙ rw g (sym (told-lost-in c a b))))
       (λ a. by-test (Ends? c y)
       (λ b.
-        let e = ap (λ (s : Step). s .events) (is-end c y a b ∙ ended-is c y z t b) in
-        let w = if-ap (λ (s : Step). s .events) (Loses? c) (lostOf (base + (c + 23 + 1)) (recordAt n base last h c) (heads c)) (keptOf (runAt n base last h (c + 23 + 1) (suc c) (countedOf y (c % n) (levelAt n base last h c))) (lastAt n base last h c) (toldPeriod c)) in
-        e ∙ w ∙ rw g' (sym (told-end c a b)))
+      let e = ap (λ (s : Step). s .events) (is-end c y a b ∙ ended-is c y z t b) in
+      let w = if-ap (λ (s : Step). s .events) (Loses? c) (lostOf (base + (c + 23 + 1)) (recordAt n base last h c) (heads c)) (keptOf (runAt n base last h (c + 23 + 1) (suc c) (countedOf y (c % n) (levelAt n base last h c))) (lastAt n base last h c) (toldPeriod c)) in
+      e ∙ w ∙ rw g' (sym (told-end c a b)))
       (λ b. ap (λ (s : Step). s .events) (is-in c y a b) ∙ sym (told-in c a b)))
 
   -- ---- no loss: the run stands as the pushes say of one position more
@@ -162,8 +162,8 @@ module _ (n base : ℕ) (last : Record) (h : List Push) where
       by-test (Lost? c noTally)
       (λ a. absurd (never (sym (if-yes (Lost? c noTally) true (if Ends? c noTally then Loses? c else false) a) ∙ e)))
       (λ a.
-        let f = sym (if-no (Lost? c noTally) true (if Ends? c noTally then Loses? c else false) a) ∙ e in
-        (a, λ b. sym (if-yes (Ends? c noTally) (Loses? c) false b) ∙ f))
+      let f = sym (if-no (Lost? c noTally) true (if Ends? c noTally then Loses? c else false) a) ∙ e in
+      (a, λ b. sym (if-yes (Ends? c noTally) (Loses? c) false b) ∙ f))
 
   after-in : (c : ℕ) (y : Tally) → 0 < n → suc (c % n) < n →
       afterAt n base last h c y ≡ runAt n base last h (c + 23 + 1) (suc c) (countedOf y (c % n) (levelAt n base last h c))
@@ -179,7 +179,7 @@ module _ (n base : ℕ) (last : Record) (h : List Push) where
       (λ b. (
         toldPeriod c,
         is-end c y (k .0) b ∙ ended-is c y z t b
-        ∙ if-no (Loses? c) (lostOf (base + (c + 23 + 1)) (recordAt n base last h c) (heads c)) (keptOf r (lastAt n base last h c) (toldPeriod c)) (k .1 b)
+            ∙ if-no (Loses? c) (lostOf (base + (c + 23 + 1)) (recordAt n base last h c) (heads c)) (keptOf r (lastAt n base last h c) (toldPeriod c)) (k .1 b),
       ))
       (λ b. (heads c, is-in c y (k .0) b ∙ ap (λ (u : Run). keptOf u (lastAt n base last h c) (heads c)) (after-in c y z (inside-place c z b))))
 
@@ -195,15 +195,14 @@ module _ (n base : ℕ) (last : Record) (h : List Push) where
       (λ b. (lostEnd c .events, is-lost-end c y a b ∙ rw g))
       (λ b. (lostIn c .events, is-lost-in c y a b ∙ rw g)))
       (λ a.
-        let f = sym (if-no (Lost? c y) true (if Ends? c y then Loses? c else false) a) ∙ e in
-        by-test (Ends? c y)
-        (λ b.
-          let d = sym (if-yes (Ends? c y) (Loses? c) false b) ∙ f in
-          let u = lostOf (base + (c + 23 + 1)) (recordAt n base last h c) (heads c) in
-          (
-            u .events,
-            is-end c y a b ∙ ended-is c y z t b
+      let f = sym (if-no (Lost? c y) true (if Ends? c y then Loses? c else false) a) ∙ e in
+      by-test (Ends? c y)
+      (λ b.
+      let d = sym (if-yes (Ends? c y) (Loses? c) false b) ∙ f in
+      let u = lostOf (base + (c + 23 + 1)) (recordAt n base last h c) (heads c) in (
+        u .events,
+        is-end c y a b ∙ ended-is c y z t b
             ∙ if-yes (Loses? c) u (keptOf (runAt n base last h (c + 23 + 1) (suc c) (countedOf y (c % n) (levelAt n base last h c))) (lastAt n base last h c) (toldPeriod c)) d
-            ∙ rw g'
-          ))
-        (λ b. absurd (never (sym f ∙ if-no (Ends? c y) (Loses? c) false b))))
+            ∙ rw g',
+      ))
+      (λ b. absurd (never (sym f ∙ if-no (Ends? c y) (Loses? c) false b))))

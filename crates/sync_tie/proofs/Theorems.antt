@@ -65,15 +65,15 @@ module _ (n base : ℕ) (last : Record) (h : List Push) where
   events-of m z l k =
       by-test (ltb m 23)
       (λ t.
-        let b = ltb-true m 23 t in
-        let e : m - 23 ≡ 0 = omega arith in
-        let f : Follows n base last h m 0 (after m) = rw e at (follows n base last h m z (omega arith) k) in
-        ap (λ (s : Step). s .events) (early-step n base last h m (after m) (getD h m noPush) b f) ∙ sym (if-yes (ltb m 23) noEvents (toldAt n base last h (m - 23)) t))
+      let b = ltb-true m 23 t in
+      let e : m - 23 ≡ 0 = omega arith in
+      let f : Follows n base last h m 0 (after m) = rw e at (follows n base last h m z (omega arith) k) in
+      ap (λ (s : Step). s .events) (early-step n base last h m (after m) (getD h m noPush) b f) ∙ sym (if-yes (ltb m 23) noEvents (toldAt n base last h (m - 23)) t))
       (λ t.
-        let b = ltb-false m 23 t in
-        let e : m - 23 + 23 ≡ m = omega arith in
-        let g = events-late (m - 23) z (omega arith) (λ c d. k c (omega arith)) in
-        subst (λ (j : ℕ). stepOn n (after j) (getD h j noPush) .events ≡ toldAt n base last h (m - 23)) e g ∙ sym (if-no (ltb m 23) noEvents (toldAt n base last h (m - 23)) t))
+      let b = ltb-false m 23 t in
+      let e : m - 23 + 23 ≡ m = omega arith in
+      let g = events-late (m - 23) z (omega arith) (λ c d. k c (omega arith)) in
+      subst (λ (j : ℕ). stepOn n (after j) (getD h j noPush) .events ≡ toldAt n base last h (m - 23)) e g ∙ sym (if-no (ltb m 23) noEvents (toldAt n base last h (m - 23)) t))
 
   loss-of : (m : ℕ) → 0 < n → m < length h → Kept n base last h m → 23 ≤ m → losesAt n base last h (m - 23) ≡ true →
       after (suc m) ≡ begun n (base + suc m) (recordAt n base last h (m - 23))

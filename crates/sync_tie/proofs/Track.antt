@@ -82,13 +82,13 @@ module _ (n base : ℕ) (last : Record) (h : List Push) where
   counted-next c y t =
       by-test (eqb (c % n) 0)
       (λ e.
-        let z : c % n ≡ 0 = eqb-true (c % n) 0 e in
-        if-yes (eqb (c % n) 0) (addedOf noTally (c % n) (levelAt c)) (addedOf y (c % n) (levelAt c)) e
-        ∙ ap (λ (u : Tally). addedOf u (c % n) (levelAt c)) (sym (rw z)))
+      let z : c % n ≡ 0 = eqb-true (c % n) 0 e in
+      if-yes (eqb (c % n) 0) (addedOf noTally (c % n) (levelAt c)) (addedOf y (c % n) (levelAt c)) e
+      ∙ ap (λ (u : Tally). addedOf u (c % n) (levelAt c)) (sym (rw z)))
       (λ e.
-        let z = eqb-false (c % n) 0 e in
-        if-no (eqb (c % n) 0) (addedOf noTally (c % n) (levelAt c)) (addedOf y (c % n) (levelAt c)) e
-        ∙ ap (λ (u : Tally). addedOf u (c % n) (levelAt c)) (t (omega arith)))
+      let z = eqb-false (c % n) 0 e in
+      if-no (eqb (c % n) 0) (addedOf noTally (c % n) (levelAt c)) (addedOf y (c % n) (levelAt c)) e
+      ∙ ap (λ (u : Tally). addedOf u (c % n) (levelAt c)) (t (omega arith)))
 
   pub heard-next : (c : ℕ) → heardTo n base last h (suc c) ≡ record { stage = takenAt n base last h c .stage; course = takenAt n base last h c .course }
   unfolding heardTo takenAt

@@ -5,16 +5,19 @@ use mathlib.Core.Bool.{Bool, true, false, _||_}
 use mathlib.Core.List.{List}
 use mathlib.Core.Logic.{_⊎_}
 use mathlib.Core.Path.{_≡_}
-use lib.ListN.{length, getD}
+use lib.ListN.{length, getD, replicate}
 use Rattle.sync_heads.specs.declared.Record.{Record}
 use Rattle.sync_step.specs.declared.Event.{Event}
 use Rattle.sync_step.specs.declared.Event.the-variants.{Nothing, Head, Period, Lost}
 use Rattle.sync_step.specs.declared.Events.{Events}
 use Rattle.sync_step.specs.Step.{isLocked, offsetOf}
 use Rattle.sync_history.specs.History.{LockIn, LockOn, LockBy, LossBy, Premise}
+use Rattle.sync.specs.declared.SlotSync.{SlotSync}
+use Rattle.sync.specs.Sync.{startedSync}
+use Rattle.sync.specs.Answers.{pushAnswer, pushAcc, restartAnswer, restartAcc}
 use Rattle.sync_tie.specs.Pushes.{Push, noPush, sizeAt}
 use Rattle.sync_tie.specs.Story.{losesAt, takenAt, tells}
-use Rattle.sync_tie.specs.Tie.{Held, pushes, begun, Kept}
+use Rattle.sync_tie.specs.Tie.{Held, stepOn, pushOn, pushes, begun, Kept}
 
 -- ---- words about events
 unfoldable pub isHead : Event → Bool
@@ -71,8 +74,8 @@ ReadingClaim = (n base : ℕ) (last : Record) (h : List Push) (k p j : ℕ) → 
 
 -- under the premise at 9,296: locked after symbol 37,207 and not before, at that place; no loss by periods while it lasts
 pub record Relocks (base place : ℕ) (last : Record) (h : List Push) : Type 0 where
-  pub not-before : (m : ℕ) → m < 37207 → m ≤ length h → Kept 9296 base last h m → isLocked (after 9296 base last h m .sync .run .lock) ≡ false
-  pub falls : 37207 ≤ length h → Kept 9296 base last h 37207 → (isLocked (after 9296 base last h 37207 .sync .run .lock) ≡ true) × (offsetOf (after 9296 base last h 37207 .sync .run .lock) ≡ place)
+  pub not-before : (m : ℕ) → m < 37207 → m ≤ length h → isLocked (after 9296 base last h m .sync .run .lock) ≡ false
+  pub falls : 37207 ≤ length h → (isLocked (after 9296 base last h 37207 .sync .run .lock) ≡ true) × (offsetOf (after 9296 base last h 37207 .sync .run .lock) ≡ place)
   pub lasts : (m : ℕ) → m ≤ length h → ¬ LossBy 9296 (sizeAt h) m
 
 abbrev pub RelockClaim : Type 0
@@ -80,4 +83,24 @@ RelockClaim = (base place P Q : ℕ) (last : Record) (h : List Push) → Premise
 
 -- a stretch of fewer than 37,207 symbols has no lock, whatever it holds
 abbrev pub NoLockClaim : Type 0
-NoLockClaim = (base : ℕ) (last : Record) (h : List Push) (m : ℕ) → m < 37207 → m ≤ length h → Kept 9296 base last h m → isLocked (after 9296 base last h m .sync .run .lock) ≡ false
+NoLockClaim = (base : ℕ) (last : Record) (h : List Push) (m : ℕ) → m < 37207 → m ≤ length h → isLocked (after 9296 base last h m .sync .run .lock) ≡ false
+
+-- the first 37,207 symbols lose nothing, whatever they are
+abbrev pub KeptClaim : Type 0
+KeptClaim = (base : ℕ) (last : Record) (h : List Push) (m : ℕ) → m ≤ 37207 → Kept 9296 base last h m
+
+-- ---- the entries: what an accepted `push` answers and leaves is a push of the story, and a restart is a new sync with the record kept
+pub record EntryIs (s : SlotSync) (p : Push) (acc : List ℕ) : Type 0 where
+  pub sync : pushAnswer s (p .i) (p .q) (p .f) (p .w) acc .sync ≡ pushOn 9296 (record { sync = s; acc = acc }) p .sync
+  pub events : pushAnswer s (p .i) (p .q) (p .f) (p .w) acc .events ≡ stepOn 9296 (record { sync = s; acc = acc }) p .events
+  pub stored : pushAcc s (p .i) (p .q) (p .f) (p .w) acc ≡ pushOn 9296 (record { sync = s; acc = acc }) p .acc
+
+abbrev pub EntryClaim : Type 0
+EntryClaim = (s : SlotSync) (p : Push) (acc : List ℕ) → pushAnswer s (p .i) (p .q) (p .f) (p .w) acc .refusal ≡ 0 → EntryIs s p acc
+
+pub record RestartIs (s : SlotSync) (at : ℕ) (acc : List ℕ) : Type 0 where
+  pub sync : restartAnswer s at acc .sync ≡ startedSync at (s .run .course .last)
+  pub stored : restartAcc s at acc ≡ replicate (length acc) 0
+
+abbrev pub RestartClaim : Type 0
+RestartClaim = (s : SlotSync) (at : ℕ) (acc : List ℕ) → restartAnswer s at acc .refusal ≡ 0 → RestartIs s at acc
