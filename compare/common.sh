@@ -5,6 +5,7 @@ here=$(cd "$(dirname "$0")" && pwd)
 root=$(cd "$here/.." && pwd)
 sources=${SULTHVEIG_RUST_SRC:-$root/../shared/docs/src}
 port=${PORT_DIR:-$root/target/staticlib}
+replay=${SYNC_REPLAY:-$root/target/bin/sync_replay}
 phy=crates/isdbs3-phy/src
 core=crates/isdbs3-core/src
 
@@ -28,6 +29,13 @@ need_rust() {
 need_port() {
     [ -f "$port/libc_api.a" ] && return
     echo "$0: no libc_api.a in $port: run 'rt staticlib c_api' first" >&2
+    exit 1
+}
+
+# Ends the script where the port's replay program of the slot sync has not been made.
+need_replay() {
+    [ -x "$replay" ] && return
+    echo "$0: no sync_replay in $(dirname "$replay"): run 'rt check sync_replay' first" >&2
     exit 1
 }
 
@@ -62,7 +70,7 @@ originals() {
     library 2021 "$out" isdb_frontend "$shims/isdb_frontend.rs" --extern isdbs3_core --extern num_complex "$@"
     library 2024 "$out" isdbs3_phy "$tree/phy/lib.rs" -A warnings \
         --extern isdbs3_core --extern isdb_frontend --extern num_complex "$@"
-    library 2021 "$out" cases "$here/src/cases.rs" --extern isdbs3_phy
+    library 2021 "$out" cases "$here/src/cases.rs" --extern isdbs3_phy --extern isdb_frontend
 }
 
 # program LIBS SOURCE NAME FLAG...: one program of ours, using the originals in LIBS

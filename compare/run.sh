@@ -3,5 +3,6 @@
 set -eu
 . "$(dirname "$0")/common.sh"
 need_rust
+need_replay
 "$here/build.sh"
-exec "$root/target/compare/compare" "$@"
+SYNC_REPLAY=$replay exec "$root/target/compare/compare" "$@"

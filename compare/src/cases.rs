@@ -2,3 +2,4 @@
 
 pub mod fx;
 pub mod inputs;
+pub mod sync;

@@ -1,97 +1,57 @@
-//! compare [--quick] [--seed N]: the port's functions beside the Rust's own, on the same inputs.
+//! compare [fx] [sync] [--quick | --full] [--seed N]: the port beside the Rust, on the same inputs. Without a part: all.
 
 mod check;
+mod fx_check;
 mod port;
+mod sync_check;
 
-use cases::fx::{Function, FUNCTIONS};
-use cases::inputs::{self, Random};
-use check::Check;
+use cases::sync::streams::Size;
+use std::path::PathBuf;
 
 const SEED: u64 = 20_261_115;
 const RANDOM: u64 = 10_000_000;
 const QUICK: u64 = 100_000;
 
-struct Tables {
-    right: Vec<Vec<i16>>,
-    wrong: Vec<Vec<i16>>,
-}
-
-impl Tables {
-    /// Those that matter to the function: one will do if it takes none.
-    fn of(&self, f: &Function) -> Vec<&[i16]> {
-        let all = self.right.iter().chain(&self.wrong).map(Vec::as_slice);
-        all.take(if f.takes_table { usize::MAX } else { 1 }).collect()
-    }
-
-    /// One in sixteen of a wrong length.
-    fn any(&self, random: &mut Random) -> &[i16] {
-        let from = if random.below(16) == 0 { &self.wrong } else { &self.right };
-        &from[random.below(from.len() as u64) as usize]
-    }
-}
-
-fn check_ranges(check: &mut Check, f: &Function, tables: &Tables) {
-    for grid in inputs::ranges(f) {
-        for (a, b) in grid.pairs() {
-            check.call(&tables.right[0], a, b);
-        }
-    }
-}
-
-fn check_limits(check: &mut Check, f: &Function, tables: &Tables) {
-    let [first, second] = f.kinds.map(inputs::limits);
-    for table in tables.of(f) {
-        for &a in &first {
-            for &b in &second {
-                check.call(table, a, b);
-            }
-        }
-    }
-}
-
-fn check_random(check: &mut Check, f: &Function, tables: &Tables, calls: u64, random: &mut Random) {
-    for _ in 0..calls {
-        let (a, b) = random.pair(f);
-        let table = if f.takes_table { tables.any(random) } else { &tables.right[0] };
-        check.call(table, a, b);
-    }
+struct Arguments {
+    fx: bool,
+    sync: bool,
+    /// Random calls a function of fx.
+    calls: u64,
+    size: Size,
+    seed: u64,
 }
 
 fn usage() -> ! {
-    eprintln!("usage: compare [--quick] [--seed NUMBER]");
+    eprintln!("usage: compare [fx] [sync] [--quick | --full] [--seed NUMBER]");
     std::process::exit(2)
 }
 
-/// The number of random calls a function, and the seed.
-fn arguments() -> (u64, u64) {
-    let (mut calls, mut seed) = (RANDOM, SEED);
+fn arguments() -> Arguments {
+    let mut a = Arguments { fx: false, sync: false, calls: RANDOM, size: Size::Short, seed: SEED };
     let mut words = std::env::args().skip(1);
     while let Some(word) = words.next() {
         match word.as_str() {
-            "--quick" => calls = QUICK,
-            "--seed" => seed = words.next().and_then(|n| n.parse().ok()).unwrap_or_else(|| usage()),
+            "fx" => a.fx = true,
+            "sync" => a.sync = true,
+            "--quick" => a.calls = QUICK,
+            "--full" => a.size = Size::Full,
+            "--seed" => a.seed = words.next().and_then(|n| n.parse().ok()).unwrap_or_else(|| usage()),
             _ => usage(),
         }
     }
-    (calls, seed)
+    if !a.fx && !a.sync {
+        (a.fx, a.sync) = (true, true);
+    }
+    a
 }
 
 fn main() {
-    let (calls, seed) = arguments();
-    println!("comparing with the Rust's chain/fx.rs: {calls} random calls a function, seed {seed}");
-    let mut random = Random(seed);
-    let tables = Tables { right: inputs::right_tables(&mut random), wrong: inputs::wrong_tables() };
-    let before = tables.right.clone();
-    let (mut compared, mut refused) = (0, 0);
-    for (f, port) in FUNCTIONS.iter().zip(port::CALLS) {
-        let mut check = Check::new(f, port);
-        check_ranges(&mut check, f, &tables);
-        check_limits(&mut check, f, &tables);
-        check_random(&mut check, f, &tables, calls, &mut random);
-        println!("{:13} {:>11} compared, {:>10} of them refused", f.name, check.compared, check.refused);
-        compared += check.compared;
-        refused += check.refused;
+    let a = arguments();
+    if a.fx {
+        fx_check::compare(a.calls, a.seed);
     }
-    assert!(tables.right == before, "the port wrote to a lent table");
-    println!("{:13} {compared:>11} compared, {refused:>10} of them refused: no difference", "all of fx");
+    if a.sync {
+        let program = std::env::var_os("SYNC_REPLAY").unwrap_or_else(|| "target/bin/sync_replay".into());
+        sync_check::compare(&PathBuf::from(program), a.size, a.seed);
+    }
 }

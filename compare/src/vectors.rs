@@ -1,11 +1,14 @@
-//! vectors fx DIR: writes DIR/stdin, calls for the replay program, and DIR/stdout, the answers it owes:
+//! vectors fx|sync DIR: writes DIR/stdin, calls for the replay program, and DIR/stdout, the answers it owes:
 //! the Rust's, and document 01's refusals. The port has no part in it.
 //!
-//! stdin: the carrier table (1,024 i16), then calls of op, a, b. stdout: answers of refusal, x, y.
+//! fx, stdin: the carrier table (1,024 i16), then calls of op, a, b. stdout: answers of refusal, x, y.
 //! Numbers of a call or an answer have 8 bytes; all are least byte first.
+//! sync: calls and told answers as README.md has them. Answers to handed-in states are the model's.
 
 use cases::fx::{Answer, Function, Kind, FUNCTIONS};
 use cases::inputs::{self, Pair, Random};
+use cases::sync::player::{Owed, Player, Telling};
+use cases::sync::streams;
 
 const SEED: u64 = 20_261_116;
 const CALLS: usize = 400;
@@ -60,7 +63,21 @@ fn put(file: &mut Vec<u8>, numbers: [i64; 3]) {
     numbers.iter().for_each(|n| file.extend(n.to_le_bytes()));
 }
 
-fn files() -> [(&'static str, Vec<u8>); 2] {
+type Files = [(&'static str, Vec<u8>); 2];
+
+fn sync_files() -> Files {
+    let (mut stdin, mut stdout) = (Vec::new(), Vec::new());
+    let mut sink = |calls: Vec<u8>, owed: Vec<Owed>| {
+        stdin.extend(calls);
+        stdout.extend(owed.iter().flat_map(|o| o.told).flat_map(u64::to_le_bytes));
+    };
+    let mut player = Player::new(Telling { every: 1 << 20, events: true, all: (0, 0) }, &mut sink);
+    streams::sample(&mut player, &mut Random(SEED));
+    player.end();
+    [("stdin", stdin), ("stdout", stdout)]
+}
+
+fn fx_files() -> Files {
     let mut random = Random(SEED);
     let table = inputs::cosine_table();
     let mut stdin: Vec<u8> = table.iter().flat_map(|entry| entry.to_le_bytes()).collect();
@@ -76,17 +93,19 @@ fn files() -> [(&'static str, Vec<u8>); 2] {
 }
 
 fn usage() -> ! {
-    eprintln!("usage: vectors fx DIR");
+    eprintln!("usage: vectors fx|sync DIR");
     std::process::exit(2)
 }
 
 fn main() -> std::io::Result<()> {
     let words: Vec<String> = std::env::args().skip(1).collect();
     let [set, dir] = &words[..] else { usage() };
-    if set != "fx" {
-        usage()
-    }
-    for (name, bytes) in files() {
+    let files = match set.as_str() {
+        "fx" => fx_files(),
+        "sync" => sync_files(),
+        _ => usage(),
+    };
+    for (name, bytes) in files {
         std::fs::write(format!("{dir}/{name}"), &bytes)?;
         println!("{name}: {} bytes", bytes.len());
     }

@@ -1,0 +1,27 @@
+// For the receiver, which proves the ranges.
+use sync_lock::Tally;
+ghost use mathlib.Core.Path.{_≡_};
+ghost use Prim.Native.Nat.{_+_, _≤_, _<_, _^_};
+ghost use lib.ListN.{length};
+ghost use Rattle.sync_corr.specs.Rows.{Unit};
+ghost use Rattle.sync_block.specs.Quiet.{rolled, rollOne};
+
+// One quiet symbol: it completes the window at position p and tells nothing.
+pub fn one(
+    y: Tally,
+    win: &mut [i16; 48],
+    i: i16,
+    q: i16,
+    p: usize,
+    rows: &[i16; 192],
+    acc: &mut [u32],
+) -> Tally
+    requires { ⌜ (length (now win) ≡ 48) × (length (now acc) ≡ 9296) × (p < 9296) × (y .sum ≤ 2 ^ 61) × (Unit (now rows)) ⌝ }
+    ensures { λ r. ⌜ (rolled (now (win .exit)) r (now (acc .exit)) ≡ rollOne (now (rows .entry)) i q p (rolled (now (win .entry)) y (now (acc .entry)))) × (r .sum ≤ y .sum + 2 ^ 32) × (length (now (win .exit)) ≡ 48) ⌝ }
+{
+    sync::ranged::shift(win, i, q);
+    let b = sync_corr::ranged::dots(win, rows);
+    let a = sync_lock::ranged::leak(acc[p], sync_corr::ranged::size(b));
+    acc[p] = a;
+    sync_lock::ranged::counted(y, p, a)
+}

@@ -1,0 +1,196 @@
+// Words and states as the places hold them: 192 numbers of 32 bits. A number of 64 bits takes two places, the low half first.
+use crate::wire;
+use sync::SlotSync;
+use sync_corr::Both;
+use sync_corr::Corr;
+use sync_heads::Course;
+use sync_heads::Parity;
+use sync_heads::Reading;
+use sync_heads::Record;
+use sync_heads::Slot;
+use sync_heads::Stage;
+use sync_lock::Lock;
+use sync_lock::Tally;
+use sync_step::Run;
+ghost use mathlib.Core.Path.{_≡_};
+ghost use Prim.Native.Nat.{_+_, _*_, _≤_, _<_, _^_};
+ghost use lib.ListN.{length};
+ghost use Rattle.sync_replay.specs.Given.{wideAt, wordOf, windowOf, corrAt, tallyOf, lockOf, stageOf, slotOf, recordOf, courseOf, runOf, stateOf};
+
+// A function, since a parameter has a range, which an element of a lent array has not.
+fn joined(low: u32, high: u32) -> u64
+    ensures { λ r. ⌜ r ≡ low + 2 ^ 32 * high ⌝ }
+{
+    (low as u64) + 4294967296 * (high as u64)
+}
+
+pub(crate) fn wide(p: &[u32; 192], k: usize) -> u64
+    requires { ⌜ k + 1 < 192 ⌝ }
+    ensures { λ r. ⌜ r ≡ wideAt (now (p .entry)) k ⌝ }
+{
+    joined(p[k], p[k + 1])
+}
+
+fn no_word() -> [i8; 48]
+    ensures { λ r. ⌜ length r ≡ 48 ⌝ }
+{
+    [0; 48]
+}
+
+// The word from place k on.
+pub(crate) fn word(p: &[u32; 192], k: usize) -> [i8; 48]
+    requires { ⌜ k + 48 ≤ 192 ⌝ }
+    ensures { λ r. ⌜ r ≡ wordOf (now (p .entry)) k ⌝ }
+{
+    let mut w = no_word();
+    let mut i: usize = 0;
+    while i < 48 {
+        w[i] = wire::signed8(p[k + i]);
+        i += 1;
+    }
+    w
+}
+
+fn no_window() -> [i16; 48]
+    ensures { λ r. ⌜ length r ≡ 48 ⌝ }
+{
+    [0; 48]
+}
+
+fn window_at(p: &[u32; 192]) -> [i16; 48]
+    ensures { λ r. ⌜ r ≡ windowOf (now (p .entry)) ⌝ }
+{
+    let mut w = no_window();
+    let mut i: usize = 0;
+    while i < 48 {
+        w[i] = wire::signed16(p[96 + i]);
+        i += 1;
+    }
+    w
+}
+
+fn corr_at(p: &[u32; 192], k: usize) -> Corr
+    requires { ⌜ k + 1 < 192 ⌝ }
+    ensures { λ r. ⌜ r ≡ corrAt (now (p .entry)) k ⌝ }
+{
+    Corr {
+        re: wire::signed32(p[k]),
+        im: wire::signed32(p[k + 1]),
+    }
+}
+
+fn tally_at(p: &[u32; 192]) -> Tally
+    ensures { λ r. ⌜ r ≡ tallyOf (now (p .entry)) ⌝ }
+{
+    Tally {
+        peak: p[148],
+        place: (p[149] % 65536) as u16,
+        sum: wide(p, 150),
+    }
+}
+
+fn lock_at(p: &[u32; 192]) -> Lock
+    ensures { λ r. ⌜ r ≡ lockOf (now (p .entry)) ⌝ }
+{
+    let place = (p[153] % 65536) as u16;
+    if p[152] == 0 {
+        Lock::Search {
+            cand: place,
+            count: p[154],
+        }
+    } else {
+        Lock::Locked {
+            offset: place,
+            misses: p[154],
+        }
+    }
+}
+
+fn stage_at(p: &[u32; 192]) -> Stage
+    ensures { λ r. ⌜ r ≡ stageOf (now (p .entry)) ⌝ }
+{
+    if p[155] == 0 {
+        Stage::Before
+    } else if p[155] == 1 {
+        let f = corr_at(p, 158);
+        let s = corr_at(p, 160);
+        Stage::First(Reading {
+            at: wide(p, 156),
+            both: Both { f: f, s: s },
+        })
+    } else {
+        let l = corr_at(p, 164);
+        Stage::Known(Parity {
+            odd: 0 < p[162],
+            due: 0 < p[163],
+            last: l,
+        })
+    }
+}
+
+fn slot_at(p: &[u32; 192]) -> Slot
+    ensures { λ r. ⌜ r ≡ slotOf (now (p .entry)) ⌝ }
+{
+    if p[167] == 0 {
+        Slot::Unknown
+    } else {
+        Slot::In {
+            number: (p[168] % 256) as u8,
+            frame: p[169],
+        }
+    }
+}
+
+fn record_at(p: &[u32; 192]) -> Record
+    ensures { λ r. ⌜ r ≡ recordOf (now (p .entry)) ⌝ }
+{
+    if p[170] == 0 {
+        Record::Never
+    } else {
+        Record::Last {
+            at: wide(p, 171),
+            frame: p[173],
+        }
+    }
+}
+
+fn course_at(p: &[u32; 192]) -> Course
+    ensures { λ r. ⌜ r ≡ courseOf (now (p .entry)) ⌝ }
+{
+    let s = slot_at(p);
+    let l = record_at(p);
+    Course {
+        majority: wire::signed32(p[166]),
+        slot: s,
+        last: l,
+        misses: p[174],
+        stray: p[175],
+        missed: p[176],
+    }
+}
+
+fn run_at(p: &[u32; 192]) -> Run
+    ensures { λ r. ⌜ r ≡ runOf (now (p .entry)) ⌝ }
+{
+    let y = tally_at(p);
+    let k = lock_at(p);
+    let s = stage_at(p);
+    let c = course_at(p);
+    Run {
+        base: wide(p, 144),
+        t: wide(p, 146),
+        tally: y,
+        lock: k,
+        stage: s,
+        course: c,
+    }
+}
+
+// The state of the places.
+pub(crate) fn state_at(p: &[u32; 192]) -> SlotSync
+    ensures { λ r. ⌜ r ≡ stateOf (now (p .entry)) ⌝ }
+{
+    let w = window_at(p);
+    let r = run_at(p);
+    SlotSync { win: w, run: r }
+}
