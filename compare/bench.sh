@@ -1,9 +1,10 @@
 #!/bin/bash
-# bench.sh: time and instructions of a call, the Rust beside the port, from one driver.
+# bench.sh: time and instructions of a call of fx and of a symbol of the slot sync, the Rust beside the port, each from one driver.
 set -eu
 . "$(dirname "$0")/common.sh"
 need_rust
 need_port
+[ -f "$port/libsync_bench.a" ] || { echo "$0: no libsync_bench.a in $port: run 'rt staticlib sync_bench' first" >&2; exit 1; }
 out=$root/target/compare
 mkdir -p "$out/fast"
 
@@ -11,21 +12,43 @@ mkdir -p "$out/fast"
 originals "$out/fast"
 with_port "$port"
 program "$out/fast" bench_fx.rs "$out/bench_fx" -C lto=fat "${port_flags[@]}"
+program "$out/fast" bench_sync.rs "$out/bench_sync" -C lto=fat -L "native=$port" -l static=sync_bench
 "$out/bench_fx" time
+echo
+"$out/bench_sync" time
 
-# instructions FUNCTION SIDE: of the whole run
+# instructions PROGRAM ARGUMENT...: of the whole run
 instructions() {
-    valgrind --tool=callgrind --callgrind-out-file="$out/callgrind.out" "$out/bench_fx" count "$1" "$2" 2>&1 |
+    local name=$1; shift
+    valgrind --tool=callgrind --callgrind-out-file="$out/callgrind.out" "$out/$name" count "$@" 2>&1 |
         sed -n 's/.*Collected : \([0-9]*\).*/\1/p'
+}
+
+# line NAME RUST PORT UNITS: what each side took, by the unit
+line() {
+    awk -v f="$1" -v r="$2" -v p="$3" -v n="$4" 'BEGIN { printf "%-14s %9.1f %9.1f %6.2f\n", f, r / n, p / n, p / r }'
 }
 
 echo
 command -v valgrind >/dev/null || { echo "no valgrind: instructions not counted"; exit 0; }
 printf '%-14s %9s %9s %6s\n' 'instructions' Rust port ratio
 for function in cordic round_shift mag_approx cos_sin_round; do
-    none=$(instructions $function none)
-    rust=$(instructions $function rust)
-    ours=$(instructions $function port)
-    awk -v f=$function -v n="$none" -v r="$rust" -v p="$ours" \
-        'BEGIN { r = (r - n) / 1000; p = (p - n) / 1000; printf "%-14s %9.1f %9.1f %6.2f\n", f, r, p, p / r }'
+    none=$(instructions bench_fx $function none)
+    rust=$(instructions bench_fx $function rust)
+    ours=$(instructions bench_fx $function port)
+    line $function $((rust - none)) $((ours - none)) 1000
+done
+
+# locked ENTRY SIDE: the instructions of four periods while locked, with what makes the stream
+locked() {
+    echo $(($(instructions bench_sync "$1" "$2" 10) - $(instructions bench_sync "$1" "$2" 6)))
+}
+
+echo
+printf '%-14s %9s %9s %6s\n' 'instructions' Rust port ratio
+for entry in feed feed_1000 feed_100 feed_10 feed_1 push; do
+    none=$(locked $entry none)
+    rust=$(locked $entry rust)
+    ours=$(locked $entry port)
+    line $entry $((rust - none)) $((ours - none)) $((4 * 9296))
 done

@@ -116,16 +116,26 @@ impl Entry {
         self.size.map_or(0, |size| calls(symbols, size))
     }
 
-    fn port(&self, words: Words, stream: &[i16], calls: u32) -> u32 {
+    fn streamed(&self, words: Words, stream: &[i16], calls: u32) -> Streamed {
         let mut acc = [0u32; PERIOD];
         let (sy, len, to, accs) = (stream.as_ptr(), stream.len(), acc.as_mut_ptr(), acc.len());
         // SAFETY: slices by their pointers and lengths; the port writes the accumulators only.
-        let r = match self.size {
+        match self.size {
             Some(size) => unsafe { sv_bench_feed(sy, len, words, size as u32, calls, to, accs) },
             None => unsafe { sv_bench_push(sy, len, words, to, accs) },
-        };
-        assert!(r.refusal == 0 && 2 * r.taken == len, "{}: {r:?} of {} symbols", self.name, len / 2);
+        }
+    }
+
+    /// The accumulator at the last position.
+    fn port(&self, words: Words, stream: &[i16], calls: u32) -> u32 {
+        let r = self.streamed(words, stream, calls);
+        assert!(r.refusal == 0 && 2 * r.taken == stream.len(), "{}: {r:?} of {}", self.name, stream.len() / 2);
         r.level
+    }
+
+    /// One call less does not take the stream.
+    fn needs(&self, words: Words, stream: &[i16], calls: u32) -> bool {
+        self.size.is_none() || 2 * self.streamed(words, stream, calls - 1).taken < stream.len()
     }
 }
 
@@ -152,6 +162,7 @@ fn time(words: Words) {
     for entry in &ENTRIES {
         let [many, few] = [&long[..], lead].map(|s| entry.calls(s.len() / 2));
         assert_eq!(rust(&long), entry.port(words, &long, many), "{}: the last accumulators differ", entry.name);
+        assert!(entry.needs(words, &long, many), "{}: fewer calls than {many}", entry.name);
         let mut least = [f64::MAX; 4];
         for _ in 0..60 {
             let taken = [
