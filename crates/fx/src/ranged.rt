@@ -82,7 +82,7 @@ pub fn cordic(re: i64, im: i64) -> Polar
 
 pub fn cos_sin_round(table: &[i16], a: u32) -> CosSin
     requires { ⌜ length (now table) ≡ 1024 ⌝ }
-    ensures { λ r. ⌜ r ≡ cosSinAt (now (table .entry)) (roundIndex a) ⌝ }
+    ensures { λ r. ⌜ (r ≡ cosSinAt (now (table .entry)) (roundIndex a)) × (natAbs (r .cos) ≤ 32768) × (natAbs (r .sin) ≤ 32768) ⌝ }
 {
     turns::cos_sin_at(
         table,

@@ -131,7 +131,7 @@ pub(crate) fn scale(re: i64, im: i64) -> Parts
 // The table's cosine and sine at entry i.
 pub(crate) fn cos_sin_at(table: &[i16], i: usize) -> CosSin
     requires { ⌜ (length (now table) ≡ 1024) × (i < 1024) ⌝ }
-    ensures { λ r. ⌜ r ≡ cosSinAt (now (table .entry)) i ⌝ }
+    ensures { λ r. ⌜ (r ≡ cosSinAt (now (table .entry)) i) × (natAbs (r .cos) ≤ 32768) × (natAbs (r .sin) ≤ 32768) ⌝ }
 {
     let j = (i + 768) % 1024;
     let c = table[i];

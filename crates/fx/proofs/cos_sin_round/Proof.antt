@@ -12,7 +12,7 @@ cos-sin-round-requires c κs = search needs
 
 returns : tie.Need-returns
 unfolding cosSinRoundAnswer
-returns c = rw (c .cos-sin-round .ensures) (sym (if-yes _ _ _ (eq-eqb _ _ (c .before .if1 .taken))))
+returns c = rw (c .cos-sin-round .ensures .0) (sym (if-yes _ _ _ (eq-eqb _ _ (c .before .if1 .taken))))
 
 returns-2 : tie.Need-returns-2
 unfolding cosSinRoundAnswer

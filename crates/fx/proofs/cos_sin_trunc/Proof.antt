@@ -16,7 +16,7 @@ cos-sin-at-requires c κs = search needs
 
 returns : tie.Need-returns
 unfolding cosSinTruncAnswer truncIndex
-returns c = rw (c .cos-sin-at .ensures) (sym (if-yes _ _ _ (eq-eqb _ _ (c .before .if1 .taken))))
+returns c = rw (c .cos-sin-at .ensures .0) (sym (if-yes _ _ _ (eq-eqb _ _ (c .before .if1 .taken))))
 
 returns-2 : tie.Need-returns-2
 unfolding cosSinTruncAnswer

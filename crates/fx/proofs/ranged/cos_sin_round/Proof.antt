@@ -16,7 +16,9 @@ cos-sin-at-requires c κs = search needs
 
 returns : tie.Need-returns
 unfolding roundIndex
-returns c = c .cos-sin-at .ensures ∙ rw (c .before .wrapping-add-u32 .ensures)
+returns c =
+    let e = c .cos-sin-at .ensures in
+    (e .0 ∙ rw (c .before .wrapping-add-u32 .ensures), e .1, e .2)
 
 pub cos-sin-round-spec : {M : Type 1} → statement M
 cos-sin-round-spec = tie.close (tie.spec wrapping-add-u32-requires cast-cos-sin-at cos-sin-at-requires returns)
