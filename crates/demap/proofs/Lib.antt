@@ -1,0 +1,7 @@
+-- Laws of the definitions, and the theorems about them.
+pub mod Distances
+pub mod Tables
+pub mod Fold
+pub mod Stage
+pub mod Blocks
+pub mod Accepted

@@ -1,0 +1,17 @@
+use mathlib.Core.Path.{sym}
+use borrow.Author.Needs.{needs}
+use Rattle.laws.specs.Choice.{if-yes, if-no}
+use Rattle.solve_step.specs.Pivot.{betterOf}
+use Rattle.solve_step.proofs.pivot.Best.against.Statement.{statement}
+use Rattle.solve_step.proofs.pivot.Best.against.Tie as tie
+
+returns : tie.Need-returns
+unfolding betterOf
+returns c = sym (if-yes _ _ _ (c .if1 .taken))
+
+returns-2 : tie.Need-returns-2
+unfolding betterOf
+returns-2 c = sym (if-no _ _ _ (c .if1 .left))
+
+pub against-spec : {M : Type 1} → statement M
+against-spec = tie.close (tie.spec returns returns-2)
