@@ -1,14 +1,15 @@
 -- A block's buffer: a turn puts one symbol's soft bits behind those that are there. Assumes nothing.
 use mathlib.Core.List.{List, _++_, append-assoc, append-nil}
+use mathlib.Core.Logic.{⊎-elim}
 use mathlib.Core.Path.{_≡_, sym, _∙_}
 use Prim.Native.Nat.{ℕ, zero, suc, _+_, _-_, _*_, _≤_, _<_}
-use native.Mathlib.Nat.{suc-mul, zero-mul, mul-le-mul, le-refl}
+use native.Mathlib.Nat.{suc-mul, zero-mul, mul-le-mul, le-refl, le-of-suc-le-suc, not-suc-le-zero, eq-or-lt-of-le}
 use native.Mathlib.Numerals.{add-one}
 use native.Mathlib.Omega.{arith}
-use lib.IntN.{ℤ}
-use lib.ListN.{length, take, drop, length-append, length-drop, length-take, drop-of-length-le}
-use lib.Seq.{take-at, drop-at, drop-drop}
-use Rattle.laws.proofs.Lists.{length-firsts}
+use lib.IntN.{ℤ, pos}
+use lib.ListN.{length, getD, take, drop, length-append, length-drop, length-take, drop-of-length-le}
+use lib.Seq.{take-at, drop-at, drop-drop, getD-append-add}
+use Rattle.laws.proofs.Lists.{length-firsts, getD-firsts}
 use Rattle.demap.specs.Demap.{softAt, softBits, symbolMetric, blockBits}
 
 pub length-bits : (f : ℕ → ℤ) (bits : ℕ) (k : ℤ) → length (softBits f bits k) ≡ bits
@@ -72,3 +73,19 @@ block-step sy points bits k s old out v h e ev =
   where
     less : (a b c : ℕ) → a + b ≤ c → a ≤ c
     less a b c h = omega arith
+
+-- ---- what stands at place j of symbol s
+pub block-at : (sy points : List ℤ) (bits : ℕ) (k : ℤ) (n : ℕ) (rest : List ℤ) (s j : ℕ) → s < n → j < bits →
+    getD (blockBits sy points bits k n ++ rest) (s * bits + j) (pos 0) ≡ softAt (symbolMetric sy points s) bits k j
+unfolding blockBits softBits
+block-at sy points bits k zero rest s j h q = absurd (not-suc-le-zero h)
+block-at sy points bits k (suc n) rest s j h q =
+    let A = blockBits sy points bits k n in
+    let w = softBits (symbolMetric sy points n) bits k in
+    rw (append-assoc A w rest)
+    (⊎-elim
+    (λ (e : s ≡ n).
+    rw (e, ← (length-block sy points bits k n))
+    (getD-append-add A (w ++ rest) j (pos 0) ∙ getD-firsts (softAt (symbolMetric sy points n) bits k) (pos 0) bits rest j q))
+    (λ (l : s < n). block-at sy points bits k n (w ++ rest) s j l q)
+    (eq-or-lt-of-le (le-of-suc-le-suc h)))

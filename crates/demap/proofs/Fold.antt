@@ -17,7 +17,7 @@ use Rattle.laws.specs.Ranges.{minZ, leastOf}
 use Rattle.demap.specs.Demap.{every, leastMetric, bitOf, leastWith, gapOf}
 use Rattle.demap.specs.Folds.{fold, halfGap, folded}
 
-by-half : {X : Type 0} (l h : ℕ) → (l < h → X) → (h ≤ l → X) → X
+pub by-half : {X : Type 0} (l h : ℕ) → (l < h → X) → (h ≤ l → X) → X
 by-half l h a b = by-test (ltb l h) (λ e. a (ltb-true l h e)) (λ e. b (ltb-false l h e))
 
 -- ---- one fold: p does not look at the bit of weight h, and t0 is some label that passes it

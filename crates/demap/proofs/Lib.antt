@@ -5,3 +5,6 @@ pub mod Fold
 pub mod Stage
 pub mod Blocks
 pub mod Accepted
+pub mod Softs
+pub mod Labels
+pub mod Theorems

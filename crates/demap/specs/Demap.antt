@@ -1,12 +1,12 @@
 -- Soft bits of a symbol: document 01, "Phase, equaliser, solver, demapper". A symbol is yi, yq; points are pairs in the order of their labels,
 -- I before Q.
-use Prim.Native.Nat.{ℕ, zero, suc, _+_, _-_, _*_, _/_, _%_, _^_}
+use Prim.Native.Nat.{ℕ, zero, suc, _+_, _-_, _*_, _/_, _%_, _^_, _<_}
 use mathlib.Core.Bool.{Bool, true, not}
 use mathlib.Core.List.{List, [], _++_}
 use lib.Dec.{eqb}
 use lib.IntN.{ℤ, pos, _+ℤ_, _-ℤ_, _*ℤ_}
 use lib.ListN.{getD}
-use lib.Signed.{ltZ}
+use lib.Signed.{ltZ, _≤ℤ_}
 use Rattle.laws.specs.Choice.{if_then_else_}
 use Rattle.laws.specs.Ranges.{leastOf, firsts, firstFrom}
 use Rattle.fx.specs.Fx.{roundShift, divRound, sat127Of}
@@ -25,6 +25,15 @@ metricOf yi yq pi pq = squaredDistance yi yq pi pq -ℤ squaredSize yi yq
 -- the metric of the point of label l
 unfoldable pub labelMetric : ℤ → ℤ → List ℤ → ℕ → ℤ
 labelMetric yi yq points l = metricOf yi yq (getD points (2 * l) (pos 0)) (getD points (2 * l + 1) (pos 0))
+
+-- the squared distance of the point of label l
+unfoldable pub labelDistance : ℤ → ℤ → List ℤ → ℕ → ℤ
+labelDistance yi yq points l = squaredDistance yi yq (getD points (2 * l) (pos 0)) (getD points (2 * l + 1) (pos 0))
+
+-- of n points that of label l is "nearest if every other has at least its squared distance to that symbol"
+pub record Nearest (yi yq : ℤ) (points : List ℤ) (n l : ℕ) : Type 0 where
+  pub below : l < n
+  pub nearest : (m : ℕ) → m < n → labelDistance yi yq points l ≤ℤ labelDistance yi yq points m
 
 -- ---- of a metric f of labels
 abbrev pub every : ℕ → Bool

@@ -11,6 +11,14 @@ ghost use lib.Signed.{ltZ};
 ghost use mathlib.Core.Bool.{false};
 ghost use Rattle.fx.specs.Fx.{roundShift, divRound, magApprox, sat16Of, sat127Of, roundIndex, cosSinAt};
 ghost use Rattle.fx.specs.Cordic.{cordicOf};
+ghost use Rattle.fx.specs.Answers.{wide};
+
+// Of size over 2^60: document 01's test of a wide argument.
+pub fn wide(v: i64) -> bool
+    ensures { λ r. ⌜ r ≡ wide v ⌝ }
+{
+    sizes::wide(v)
+}
 
 pub fn round_shift(v: i64, s: u32) -> i64
     requires { ⌜ (natAbs v ≤ 2 ^ 60) × (s ≤ 60) ⌝ }

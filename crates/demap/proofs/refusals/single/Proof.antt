@@ -44,22 +44,36 @@ returns-4 : tie.Need-returns-4
 unfolding demapRefusal
 returns-4 c =
     let n = shifted _ (c .before .if3 .left) in
-    sym (
-      if-no _ _ _ (le-ltb _ _ (c .before .before .before .if1 .left))
-      ∙ if-yes _ _ _ (rw (le-ltb _ _ (c .before .before .if2 .left), le-ltb _ _ (c .before .if3 .left), ne-eqb _ _ (λ e. c .if4 .taken (e ∙ sym n)))),
-    )
+    let f = ne-eqb _ _ (λ e. c .if4 .taken (e ∙ sym n)) in
+    sym (if-no _ _ _ (le-ltb _ _ (c .before .before .before .if1 .left))
+    ∙ if-yes _ _ _ (rw (le-ltb _ _ (c .before .before .if2 .left), le-ltb _ _ (c .before .if3 .left), f)))
 
 returns-5 : tie.Need-returns-5
 unfolding demapRefusal
-returns-5 c = ?
+returns-5 c =
+    let s = c .before .before .before .before .before in
+    let n = eq-eqb _ _ (c .before .if4 .left ∙ shifted _ (c .before .before .if3 .left)) in
+    sym (if-no _ _ _ (le-ltb _ _ (c .before .before .before .before .if1 .left))
+    ∙ if-no _ _ _ (rw (le-ltb _ _ (c .before .before .before .if2 .left), le-ltb _ _ (c .before .before .if3 .left), n))
+    ∙ if-yes _ _ _ (rw (rw (toZ-ofZ (s .fits .k)) at (c .if5 .taken))))
 
 returns-6 : tie.Need-returns-6
 unfolding demapRefusal
-returns-6 c = ?
+returns-6 c =
+    let s = c .before .before .before .before .before .before in
+    let n = eq-eqb _ _ (c .before .before .if4 .left ∙ shifted _ (c .before .before .before .if3 .left)) in
+    sym (if-no _ _ _ (le-ltb _ _ (c .before .before .before .before .before .if1 .left))
+    ∙ if-no _ _ _ (rw (le-ltb _ _ (c .before .before .before .before .if2 .left), le-ltb _ _ (c .before .before .before .if3 .left), n))
+    ∙ if-yes _ _ _ (rw (rw (toZ-ofZ (s .fits .k)) at (c .before .if5 .left), rw (toZ-ofZ (s .fits .k)) at (c .if6 .taken))))
 
 returns-7 : tie.Need-returns-7
 unfolding demapRefusal
-returns-7 c = ?
+returns-7 c =
+    let s = c .before .before .before .before .before .before in
+    let n = eq-eqb _ _ (c .before .before .if4 .left ∙ shifted _ (c .before .before .before .if3 .left)) in
+    sym (if-no _ _ _ (le-ltb _ _ (c .before .before .before .before .before .if1 .left))
+    ∙ if-no _ _ _ (rw (le-ltb _ _ (c .before .before .before .before .if2 .left), le-ltb _ _ (c .before .before .before .if3 .left), n))
+    ∙ if-no _ _ _ (rw (rw (toZ-ofZ (s .fits .k)) at (c .before .if5 .left), rw (toZ-ofZ (s .fits .k)) at (c .if6 .left))))
 
 pub single-spec : {M : Type 1} → statement M
 single-spec =

@@ -1,43 +1,39 @@
+use mathlib.Core.Path.{_≡_, sym, _∙_}
+use Prim.Native.Nat.{_≤_, _+_, _-_}
 use borrow.Author.Needs.{needs}
+use Rattle.solve_step.proofs.Turns.{rows-turn, rows-ended}
+use Rattle.solve_step.specs.Eliminate.{systemOf, rowsFrom}
 use Rattle.solve_step.proofs.rows.eliminate_rows.Statement.{statement}
 use Rattle.solve_step.proofs.rows.eliminate_rows.Tie as tie
-use Rattle.solve_step.proofs.rows.eliminate_rows.Reads as reads
-use Rattle.solve_step.proofs.rows.eliminate_rows.Lts as lts
-use Rattle.solve_step.proofs.rows.eliminate_row.Reads as eliminate-row-reads
 
 abbrev Inv-loop : tie.InvT-loop
-Inv-loop a₀ b₀ c r₀ a b r = ?
+Inv-loop a₀ b₀ c r₀ a b r = (r ≤ 11) × (rowsFrom (systemOf a b) c r (11 - r) ≡ rowsFrom (systemOf a₀ b₀) c (c + 1) (11 - (c + 1)))
 
 abbrev μ-loop : tie.MeasureT-loop
-μ-loop a₀ b₀ c r₀ a b r = ?
+μ-loop a₀ b₀ c r₀ a b r = 11 - r
 
--- src/rows.rt:84:17
 add-r : tie.Need-add-r Inv-loop μ-loop
 add-r c = search needs
 
--- src/rows.rt:85:5
 loop-holds : tie.Need-loop-holds Inv-loop μ-loop
 loop-holds c = search needs
 
--- src/rows.rt:86:9
 eliminate-row-requires : tie.Need-eliminate-row-requires Inv-loop μ-loop
 eliminate-row-requires c κs = search needs
 
--- src/rows.rt:87:9
 add-r-2 : tie.Need-add-r-2 Inv-loop μ-loop
 add-r-2 c = search needs
 
--- src/rows.rt:85:5
 loop-less : tie.Need-loop-less Inv-loop μ-loop
 loop-less c = search needs
 
--- src/rows.rt:85:5
 loop-again : tie.Need-loop-again Inv-loop μ-loop
-loop-again c = search needs
+loop-again c =
+    let h = c .before .before .before in
+    (search needs, rw (c .eliminate-row .ensures) (sym (rows-turn _ _ _ (h .loop-test .taken)) ∙ h .before .loop .inv .1))
 
--- src/rows.rt:80:1
 returns : tie.Need-returns Inv-loop μ-loop
-returns c = search needs
+returns c = sym (rows-ended _ _ _ (c .loop-test .left)) ∙ c .before .loop .inv .1
 
 pub eliminate-rows-spec : {M : Type 1} → statement M
 eliminate-rows-spec =

@@ -17,7 +17,10 @@ set-entry-requires-2 c κs = search needs
 
 returns : tie.Need-returns
 unfolding entrySwap
-returns c = rw (c .set-entry2 .ensures, c .before .set-entry .ensures, c .before .before .entry2 .ensures, c .before .before .before .entry .ensures)
+returns c =
+    let s = c .before .before in
+    let t = s .before .before in
+    rw (c .set-entry2 .ensures, s .set-entry .ensures, t .entry2 .ensures, t .before .before .entry .ensures)
 
 pub swap-entries-spec : {M : Type 1} → statement M
 swap-entries-spec =

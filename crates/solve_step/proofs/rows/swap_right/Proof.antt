@@ -17,7 +17,10 @@ set-right-requires-2 c κs = search needs
 
 returns : tie.Need-returns
 unfolding entrySwap
-returns c = rw (c .set-right2 .ensures, c .before .set-right .ensures, c .before .before .right2 .ensures, c .before .before .before .right .ensures)
+returns c =
+    let s = c .before .before in
+    let t = s .before .before in
+    rw (c .set-right2 .ensures, s .set-right .ensures, t .right2 .ensures, t .before .before .right .ensures)
 
 pub swap-right-spec : {M : Type 1} → statement M
 swap-right-spec =

@@ -38,7 +38,7 @@ loop-less c = search needs
 
 loop-again : tie.Need-loop-again Inv-loop μ-loop
 loop-again c =
-    (search needs, rw (c .swap-entries .ensures) (sym (swap-turn _ _ _ _ (c .before .loop-test .taken)) ∙ c .before .before .loop .inv .1))
+    (search needs, rw (c .swap-entries .ensures) (sym (swap-turn _ _ _ _ (c .before .before .loop-test .taken)) ∙ c .before .before .before .loop .inv .1))
 
 returns : tie.Need-returns Inv-loop μ-loop
 returns c = sym (swap-ended _ _ _ _ (c .loop-test .left)) ∙ c .before .loop .inv .1

@@ -39,7 +39,8 @@ set-entry-requires c κs = search needs
 returns : tie.Need-returns
 unfolding entryStep
 returns c =
-    rw (c .set-entry .ensures, c .before .subtract .ensures, c .before .before .multiply .ensures, c .before .before .before .entry2 .ensures, c .before .before .before .before .entry .ensures)
+    let t = c .before .before .before .before in
+    rw (c .set-entry .ensures, c .before .subtract .ensures, c .before .before .multiply .ensures, t .entry2 .ensures, t .before .before .entry .ensures)
 
 pub update-entry-spec : {M : Type 1} → statement M
 update-entry-spec =

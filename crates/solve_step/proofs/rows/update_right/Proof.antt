@@ -21,7 +21,8 @@ set-right-requires c κs = search needs
 returns : tie.Need-returns
 unfolding rightStep
 returns c =
-    rw (c .set-right .ensures, c .before .subtract .ensures, c .before .before .multiply .ensures, c .before .before .before .right2 .ensures, c .before .before .before .before .right .ensures)
+    let t = c .before .before .before .before in
+    rw (c .set-right .ensures, c .before .subtract .ensures, c .before .before .multiply .ensures, t .right2 .ensures, t .before .before .right .ensures)
 
 pub update-right-spec : {M : Type 1} → statement M
 update-right-spec =

@@ -26,7 +26,7 @@ loop-less c = search needs
 
 loop-again : tie.Need-loop-again Inv-loop μ-loop
 loop-again c =
-    (search needs, rw (c .update-entry .ensures) (sym (row-turn _ _ _ _ _ (c .before .loop-test .taken)) ∙ c .before .before .loop .inv .1))
+    (search needs, rw (c .update-entry .ensures) (sym (row-turn _ _ _ _ _ (c .before .before .loop-test .taken)) ∙ c .before .before .before .loop .inv .1))
 
 returns : tie.Need-returns Inv-loop μ-loop
 returns c = sym (row-ended _ _ _ _ _ (c .loop-test .left)) ∙ c .before .loop .inv .1

@@ -1,0 +1,42 @@
+// Refusals, in the order of document 01's table.
+use crate::Nco;
+use crate::ranged;
+use sync_heads::Head;
+ghost use mathlib.Core.Path.{_≡_};
+ghost use lib.Dec.{ltb, leb};
+ghost use Prim.Native.Nat.{_^_};
+ghost use Rattle.fx.specs.Answers.{wide};
+ghost use Rattle.carrier.specs.Answers.{rotateRefusal, headRefusal};
+
+pub(crate) fn rotate(n: Nco, len: usize) -> u8
+    ensures { λ r. ⌜ r ≡ rotateRefusal n len ⌝ }
+{
+    if len == 1024 {
+        if ranged::in_range(n) { 0 } else { 6 }
+    } else {
+        3
+    }
+}
+
+// Of size over 2^60.
+fn wide(v: i64) -> bool
+    ensures { λ r. ⌜ r ≡ wide v ⌝ }
+{
+    (v < -0x1000_0000_0000_0000) | (0x1000_0000_0000_0000 < v)
+}
+
+pub(crate) fn head(n: Nco, h: Head) -> u8
+    ensures { λ r. ⌜ r ≡ headRefusal n h ⌝ }
+{
+    if ranged::in_range(n) {
+        if wide(h.amp) {
+            6
+        } else if 0x4000_0000_0000_0000 <= h.at {
+            7
+        } else {
+            0
+        }
+    } else {
+        6
+    }
+}

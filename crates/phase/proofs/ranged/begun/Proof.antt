@@ -1,0 +1,12 @@
+use Rattle.phase.specs.Phase.{begunOf}
+use mathlib.Core.Path.{refl}
+use borrow.Author.Needs.{needs}
+use Rattle.phase.proofs.ranged.begun.Statement.{statement}
+use Rattle.phase.proofs.ranged.begun.Tie as tie
+
+returns : tie.Need-returns
+unfolding begunOf
+returns c = refl
+
+pub begun-spec : {M : Type 1} → statement M
+begun-spec = tie.close (tie.spec returns)

@@ -1,0 +1,51 @@
+use mathlib.Core.List.{_++_}
+use mathlib.Core.Path.{_≡_, refl, sym, _∙_}
+use Prim.Native.Nat.{_-_, _*_, _≤_}
+use lib.ListN.{drop}
+use borrow.Author.Needs.{needs}
+use Rattle.solve.proofs.Laws.{parts-turn, all-written}
+use Rattle.solve.specs.System.{parts, pairOf, rightOf}
+use Rattle.solve.proofs.system.right_side.Statement.{statement}
+use Rattle.solve.proofs.system.right_side.Tie as tie
+
+abbrev Inv-loop : tie.InvT-loop
+Inv-loop l b₀ k₀ b k = (k ≤ 11) × (b ≡ parts (pairOf l) k ++ drop (2 * k) b₀)
+
+abbrev μ-loop : tie.MeasureT-loop
+μ-loop l b₀ k₀ b k = 11 - k
+
+loop-holds : tie.Need-loop-holds Inv-loop μ-loop
+unfolding parts
+loop-holds c = (search needs, refl)
+
+right-pair-requires : tie.Need-right-pair-requires Inv-loop μ-loop
+right-pair-requires c κs = search needs
+
+set-right-requires : tie.Need-set-right-requires Inv-loop μ-loop
+set-right-requires c κs = search needs
+
+add-k : tie.Need-add-k Inv-loop μ-loop
+add-k c = search needs
+
+loop-less : tie.Need-loop-less Inv-loop μ-loop
+loop-less c = search needs
+
+loop-again : tie.Need-loop-again Inv-loop μ-loop
+loop-again c = ?
+
+returns : tie.Need-returns Inv-loop μ-loop
+returns c = ?
+
+pub right-side-spec : {M : Type 1} → statement M
+right-side-spec =
+    tie.close
+    (tie.spec
+    Inv-loop
+    μ-loop
+    loop-holds
+    right-pair-requires
+    set-right-requires
+    add-k
+    loop-less
+    loop-again
+    returns)

@@ -1,0 +1,42 @@
+use mathlib.Core.Path.{sym, _∙_}
+use borrow.Author.Needs.{needs}
+use borrow.Author.Tests.{lt-ltb, le-ltb}
+use Rattle.laws.specs.Choice.{if-yes, if-no}
+use Rattle.solve.specs.System.{entryOf}
+use Rattle.solve.proofs.system.sum_entry.Statement.{statement}
+use Rattle.solve.proofs.system.sum_entry.Tie as tie
+
+upper-requires : tie.Need-upper-requires
+upper-requires c κs = search needs
+
+upper-pair-requires : tie.Need-upper-pair-requires
+upper-pair-requires c κs = search needs
+
+upper-requires-2 : tie.Need-upper-requires-2
+upper-requires-2 c κs = search needs
+
+upper-pair-requires-2 : tie.Need-upper-pair-requires-2
+upper-pair-requires-2 c κs = search needs
+
+conjugate-requires : tie.Need-conjugate-requires
+conjugate-requires c κs = search needs
+
+returns : tie.Need-returns
+unfolding entryOf
+returns c = ?
+
+returns-2 : tie.Need-returns-2
+unfolding entryOf
+returns-2 c = ?
+
+pub sum-entry-spec : {M : Type 1} → statement M
+sum-entry-spec =
+    tie.close
+    (tie.spec
+    upper-requires
+    upper-pair-requires
+    upper-requires-2
+    upper-pair-requires-2
+    conjugate-requires
+    returns
+    returns-2)

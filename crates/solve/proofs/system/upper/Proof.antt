@@ -1,0 +1,30 @@
+use mathlib.Core.Path.{_≡_, refl}
+use native.Mathlib.Omega.{arith}
+use borrow.Author.Needs.{needs}
+use Rattle.solve.proofs.Laws.{product-most, start-most}
+use Rattle.sums.specs.Sums.{upperAt}
+use Rattle.solve.proofs.system.upper.Statement.{statement}
+use Rattle.solve.proofs.system.upper.Tie as tie
+
+mul-result : tie.Need-mul-result
+mul-result c = search needs
+
+add-result : tie.Need-add-result
+add-result c = search needs
+
+mul-result-2 : tie.Need-mul-result-2
+mul-result-2 c = ?
+
+sub-result : tie.Need-sub-result
+sub-result c = ?
+
+add-result-2 : tie.Need-add-result-2
+add-result-2 c = ?
+
+returns : tie.Need-returns
+unfolding upperAt
+returns c = ?
+
+pub upper-spec : {M : Type 1} → statement M
+upper-spec =
+    tie.close (tie.spec mul-result add-result mul-result-2 sub-result add-result-2 returns)
