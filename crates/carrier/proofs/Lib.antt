@@ -1,3 +1,5 @@
 -- Laws of the definitions, and the theorems about them.
 pub mod Laws
+pub mod Kept
+pub mod Hearing
 pub mod Theorems

@@ -7,7 +7,7 @@ use angles::Symbol;
 use sync_heads::Head;
 use sync_heads::Word;
 ghost use mathlib.Core.Path.{_≡_};
-ghost use Prim.Native.Nat.{_+_, _≤_, _<_, _^_};
+ghost use Prim.Native.Nat.{_+_, _≤_, _^_};
 ghost use lib.IntN.{natAbs};
 ghost use lib.ListN.{length};
 ghost use Rattle.carrier.specs.Carrier.{startedNco, rotatedOf, advancedNco, tuned, ssyncHeard, trailHeard, heardOf};

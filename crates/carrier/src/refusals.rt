@@ -3,8 +3,6 @@ use crate::Nco;
 use crate::ranged;
 use sync_heads::Head;
 ghost use mathlib.Core.Path.{_≡_};
-ghost use lib.Dec.{ltb, leb};
-ghost use Prim.Native.Nat.{_^_};
 ghost use Rattle.fx.specs.Answers.{wide};
 ghost use Rattle.carrier.specs.Answers.{rotateRefusal, headRefusal};
 

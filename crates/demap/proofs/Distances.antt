@@ -1,17 +1,19 @@
 -- The metric: from squared distances, from the products of the Rust's formula, and from twice the symbol's parts, as the code has it. Assumes
 -- nothing.
 use mathlib.Core.List.{List}
-use mathlib.Core.Path.{_≡_, sym, ap, _∙_}
-use Prim.Native.Nat.{ℕ, _+_, _*_, _^_}
+use mathlib.Core.Path.{_≡_, refl, ap, _∙_}
+use Prim.Native.Nat.{ℕ, _+_, _*_, _^_, _≤_}
 use native.Mathlib.Omega.{arith}
-use lib.IntN.{ℤ, pos, _+ℤ_, _-ℤ_, _*ℤ_, *ℤ-comm}
+use lib.IntN.{ℤ, pos, negsuc, natAbs, _+ℤ_, _-ℤ_, _*ℤ_, *ℤ-comm}
 use lib.ListN.{getD}
+use lib.Signed.{_≤ℤ_}
 use mir.Syntax.{w16, w64}
 use mir.Val.{SFits, toZ, ofZ}
-use Rattle.laws.proofs.Linear.{up, dn, sum-ud, dif-ud, eq-ud, ud-eq}
+use Rattle.laws.proofs.Linear.{up, dn, sum-ud, dif-ud, eq-ud, ud-eq, le-ud, size-ud}
 use Rattle.laws.proofs.Product.{dist, dist-sub, twice, square}
-use Rattle.laws.proofs.Size.{Num, at, arg, lit, times}
-use Rattle.demap.specs.Demap.{squaredDistance, squaredSize, metricOf, labelMetric}
+use Rattle.laws.proofs.Size.{Num, num, at, arg, lit, plus, less, times}
+use Rattle.laws.specs.Choice.{minus}
+use Rattle.demap.specs.Demap.{squaredDistance, metricOf, labelMetric}
 use Rattle.demap.specs.Folds.{byTwice, labelByTwice}
 
 -- one axis of the squared distance, linear in its four products
@@ -76,3 +78,30 @@ label-twice yi yq points l = metric-twice yi yq (getD points (2 * l) (pos 0)) (g
 -- twice a part of a symbol, as the code has it
 pub doubled : {y : ℤ} → SFits w16 y → Num (toZ w64 (ofZ w64 (pos 2 *ℤ toZ w64 (ofZ w64 (toZ w16 (ofZ w16 y)))))) (pos 2 *ℤ y) 65536
 doubled h = at w64 (times (lit 2) (at w64 (arg h) tt)) tt
+
+-- ---- how large a metric of 16-bit numbers is: not below -|y|², which is 2^31 at most
+square-up : (z : ℤ) → dn (z *ℤ z) ≡ 0
+square-up (pos a) = refl
+square-up (negsuc a) = refl
+
+sized : (y p : ℤ) → natAbs y ≤ 32768 → natAbs p ≤ 32768 → natAbs (p *ℤ (p -ℤ pos 2 *ℤ y)) ≤ 3221225472
+sized y p h k = times (num p 32768 k) (less (num p 32768 k) (times (lit 2) (num y 32768 h))) .size
+
+pub metric-low : (yi yq pi pq : ℤ) → natAbs yi ≤ 32768 → natAbs yq ≤ 32768 → minus (2 ^ 31) ≤ℤ metricOf yi yq pi pq
+unfolding metricOf squaredDistance
+metric-low yi yq pi pq h k =
+    let s = (yi -ℤ pi) *ℤ (yi -ℤ pi) in
+    let t = (yq -ℤ pq) *ℤ (yq -ℤ pq) in
+    let y = yi *ℤ yi +ℤ yq *ℤ yq in
+    let n = plus (times (num yi 32768 h) (num yi 32768 h)) (times (num yq 32768 k) (num yq 32768 k)) .size in
+    le-ud (minus (2 ^ 31)) ((s +ℤ t) -ℤ y)
+    (omega (arith, square-up (yi -ℤ pi), square-up (yq -ℤ pq), sum-ud s t, dif-ud (s +ℤ t) y, n, size-ud y))
+
+pub metric-high : (yi yq pi pq : ℤ) → natAbs yi ≤ 32768 → natAbs yq ≤ 32768 → natAbs pi ≤ 32768 → natAbs pq ≤ 32768 →
+    metricOf yi yq pi pq ≤ℤ pos (3 * 2 ^ 31)
+unfolding byTwice
+metric-high yi yq pi pq h k m n =
+    let a = pi *ℤ (pi -ℤ pos 2 *ℤ yi) in
+    let b = pq *ℤ (pq -ℤ pos 2 *ℤ yq) in
+    rw (← (metric-twice yi yq pi pq))
+    (le-ud (a +ℤ b) (pos (3 * 2 ^ 31)) (omega (arith, sum-ud a b, size-ud a, size-ud b, sized yi pi h m, sized yq pq k n)))

@@ -1,6 +1,6 @@
 -- The fold law, for any number of bits: dropping the top bit keeps the least metric of either kind of each lower bit, and the halves of the
 -- table are the two kinds of the bit that is dropped. Assumes nothing.
-use mathlib.Core.Bool.{Bool, true, false}
+use mathlib.Core.Bool.{Bool, true}
 use mathlib.Core.Path.{_≡_, refl, sym, ap, ap₂, _∙_}
 use Prim.Native.Nat.{ℕ, zero, suc, _+_, _-_, _*_, _/_, _%_, _^_, _≤_, _<_}
 use native.Mathlib.Nat.{le-refl, zero-mul, one-mul, div-eq-of-lt, add-div-left, mul-add-div-right, mod-eq-of-lt, pow-suc}

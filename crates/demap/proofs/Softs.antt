@@ -1,13 +1,12 @@
 -- The soft value of a gap: it grows with the gap, and has its sign. Assumes nothing.
 use mathlib.Core.Bool.{true, false}
-use mathlib.Core.Path.{_≡_, refl, sym, _∙_}
-use Prim.Native.Nat.{ℕ, zero, suc, _+_, _*_, _^_, _≤_, _<_}
-use native.Mathlib.Nat.{zero-mul}
+use mathlib.Core.Path.{_≡_, refl}
+use Prim.Native.Nat.{_^_}
 use native.Mathlib.Omega.{arith}
 use lib.IntN.{ℤ, pos, negsuc, _+ℤ_, _-ℤ_, _*ℤ_, zero-*ℤ}
 use lib.Signed.{ltZ, _≤ℤ_, _<ℤ_}
-use Rattle.fx.specs.Fx.{floorDiv, halfUp, roundShift, clamp, sat127Of}
-use Rattle.laws.proofs.Linear.{up, dn, sum-ud, dif-ud, neg-ud, ud-lt, ud-le, ud-eq, lt-ud, le-ud, not-below, test-lt, test-le}
+use Rattle.fx.specs.Fx.{floorDiv, roundShift, clamp, sat127Of}
+use Rattle.laws.proofs.Linear.{dn, sum-ud, dif-ud, ud-lt, ud-le, ud-eq, lt-ud, le-ud, not-below, test-lt, test-le}
 use Rattle.laws.proofs.Product.{dist-sub}
 use Rattle.laws.proofs.Tests.{by-test, if-either}
 use Rattle.laws.specs.Choice as X

@@ -5,7 +5,7 @@ use Prim.Native.Nat.{ℕ, _+_, _-_, _≤_, _<_}
 use native.Mathlib.Omega.{arith}
 use borrow.Author.Count.{below-more}
 use lib.IntN.{ℤ, pos}
-use lib.ListN.{length, getD, set, drop}
+use lib.ListN.{length, set, drop}
 use lib.Seq.{getD-append-add, getD-drop, getD-set-same, getD-set-other}
 use Rattle.laws.proofs.Lists.{length-firsts}
 use Rattle.laws.specs.Ranges.{firsts}

@@ -2,12 +2,11 @@
 -- number of bits is left open throughout. Assumes nothing.
 use mathlib.Core.Bool.{false}
 use mathlib.Core.List.{List, _++_}
-use mathlib.Core.Path.{_≡_, refl, sym, _∙_}
+use mathlib.Core.Path.{_≡_, refl}
 use Prim.Native.Nat.{ℕ, _+_, _-_, _*_, _/_, _^_, _≤_, _<_, zero-le}
 use native.Mathlib.Nat.{le-refl, le-of-suc-le-suc, div-lt-iff-lt-mul}
 use native.Mathlib.Omega.{arith}
 use borrow.Author.Tests.{eq-eqb, ltb-false}
-use lib.Dec.{eqb}
 use lib.IntN.{ℤ, pos, negsuc, natAbs, _+ℤ_, _-ℤ_, _*ℤ_}
 use lib.ListN.{length, getD, drop}
 use lib.Pow.{pow-pos}
@@ -15,13 +14,13 @@ use lib.Signed.{ltZ, _≤ℤ_, _<ℤ_}
 use Rattle.fx.proofs.Theorems.{sat127-theorem}
 use Rattle.fx.specs.Fx.{roundShift, divRound}
 use Rattle.laws.proofs.Least.{least-le, least-hit}
-use Rattle.laws.proofs.Linear.{up, dn, sum-ud, dif-ud, ud-le, le-ud, eq-ud, size-le, test-le}
+use Rattle.laws.proofs.Linear.{dif-ud, ud-le, le-ud, size-le, test-le}
 use Rattle.laws.proofs.Lists.{getD-firsts}
 use Rattle.laws.proofs.Tests.{never, if-either}
-use Rattle.laws.specs.Choice.{if-yes}
+use Rattle.laws.specs.Choice.{minus, if-yes}
 use Rattle.demap.proofs.Accepted.{accepted, block-accepted}
 use Rattle.demap.proofs.Blocks.{block-at}
-use Rattle.demap.proofs.Distances.{metric-parts}
+use Rattle.demap.proofs.Distances.{metric-parts, metric-low, metric-high}
 use Rattle.demap.proofs.Labels.{bit-is-zero, bit-is-one, lowest-is}
 use Rattle.demap.proofs.Softs.{soft-up, gap-above, gap-below}
 use Rattle.demap.specs.Answers.{demapRefusal, demapBuffer, blockRefusal, blockBuffer}
@@ -33,6 +32,11 @@ pub metric-theorem : (yi yq pi pq : ℤ) →
     × (metricOf yi yq pi pq ≡ squaredSize pi pq -ℤ pos 2 *ℤ (yi *ℤ pi +ℤ yq *ℤ pq))
 unfolding metricOf
 metric-theorem yi yq pi pq = (refl, metric-parts yi yq pi pq)
+
+-- .. and of 16-bit numbers it lies in -2^31 .. 3 · 2^31
+pub range-theorem : (yi yq pi pq : ℤ) → natAbs yi ≤ 2 ^ 15 → natAbs yq ≤ 2 ^ 15 → natAbs pi ≤ 2 ^ 15 → natAbs pq ≤ 2 ^ 15 →
+    (minus (2 ^ 31) ≤ℤ metricOf yi yq pi pq) × (metricOf yi yq pi pq ≤ℤ pos (3 * 2 ^ 31))
+range-theorem yi yq pi pq h k m n = (metric-low yi yq pi pq h k, metric-high yi yq pi pq h k m n)
 
 -- ---- THE LEAST METRIC is that of a point, and no point's is less
 pub record IsLeast (f : ℕ → ℤ) (n : ℕ) (v : ℤ) : Type 0 where

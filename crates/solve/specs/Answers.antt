@@ -22,8 +22,11 @@ unfoldable pub wideAmong : List ℤ → ℕ → Bool
 wideAmong l zero = false
 wideAmong l (suc n) = wideAmong l n || wide (getD l n (pos 0))
 
+abbrev pub anyWide : List ℤ → Bool
+anyWide l = wideAmong l (length l)
+
 unfoldable pub outsideOf : Sums → Bool
-outsideOf s = eqb (s .count) 0 || (ltb 4194304 (s .count) || (wideAmong (s .r) (length (s .r)) || wideAmong (s .p) (length (s .p))))
+outsideOf s = eqb (s .count) 0 || ltb 4194304 (s .count) || anyWide (s .r) || anyWide (s .p)
 
 unfoldable pub refusedBy : ℕ → Solved
 refusedBy n = record { refusal = n; taps = noTaps }

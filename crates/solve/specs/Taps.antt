@@ -1,5 +1,5 @@
 -- "Taps round halves away from zero and saturate; NaN gives 0." A tap has 14 fraction bits: it is 16,384 times the unknown's part, a product
--- that is exact but for overflow and the least doubles.
+-- that is exact unless it overflows, and then saturates.
 use mathlib.Core.Bool.{Bool}
 use mathlib.Core.List.{List}
 use Prim.Native.Nat.{ℕ, _+_, _*_, _/_, min}

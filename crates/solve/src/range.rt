@@ -1,8 +1,7 @@
 // The sums that are taken.
 use sums::Sums;
 ghost use mathlib.Core.Path.{_≡_};
-ghost use lib.ListN.{length};
-ghost use Rattle.solve.specs.Answers.{wide, wideAmong, outsideOf};
+ghost use Rattle.solve.specs.Answers.{wide, anyWide, outsideOf};
 
 // Of size over 2^53.
 fn wide(v: i64) -> bool
@@ -12,7 +11,7 @@ fn wide(v: i64) -> bool
 }
 
 fn any_wide(l: &[i64]) -> bool
-    ensures { λ r. ⌜ r ≡ wideAmong (now (l .entry)) (length (now (l .entry))) ⌝ }
+    ensures { λ r. ⌜ r ≡ anyWide (now (l .entry)) ⌝ }
 {
     let mut any = false;
     let mut k: usize = 0;

@@ -1,6 +1,6 @@
 // Back substitution, from the last row up.
-use crate::complex::Complex;
 use crate::System;
+use crate::complex::Complex;
 use crate::ranged;
 ghost use mathlib.Core.Path.{_≡_};
 ghost use Prim.Native.Nat.{_+_, _-_, _<_};

@@ -1,7 +1,5 @@
 -- `demap::metric` meets its contract. Assumes nothing.
 use mathlib.Core.Path.{_∙_}
-use native.Mathlib.Omega.{arith}
-use lib.IntN.{pos, _*ℤ_}
 use mir.Facts.{toZ-ofZ}
 use mir.Syntax.{w64}
 use Rattle.laws.proofs.Size.{fits, at, arg, lit, times, back}

@@ -1,10 +1,11 @@
+-- `phase::correct` meets its contract. Assumes nothing.
+use mathlib.Core.Path.{sym, _∙_}
+use borrow.Author.Needs.{needs}
 use denote.Ref.{now}
 use lib.ListN.{length}
-use Rattle.phase.proofs.Laws.{correct-taken}
-use mathlib.Core.Path.{sym, _∙_}
 use Rattle.laws.specs.Choice.{cases}
+use Rattle.phase.proofs.Laws.{correct-taken}
 use Rattle.phase.specs.Answers.{correctAnswer}
-use borrow.Author.Needs.{needs}
 use Rattle.phase.proofs.correct.Statement.{statement}
 use Rattle.phase.proofs.correct.Tie as tie
 

@@ -1,9 +1,10 @@
-use Rattle.fx.proofs.Laws.{not-wide}
-use mir.Facts.{toZ-ofZ}
+-- `phase::gain_of` meets its contract. Assumes nothing.
 use mathlib.Core.Path.{sym, _∙_}
+use borrow.Author.Needs.{needs}
+use mir.Facts.{toZ-ofZ}
+use Rattle.fx.proofs.Laws.{not-wide}
 use Rattle.laws.specs.Choice.{cases}
 use Rattle.phase.specs.Answers.{gainAnswer}
-use borrow.Author.Needs.{needs}
 use Rattle.phase.proofs.gain_of.Statement.{statement}
 use Rattle.phase.proofs.gain_of.Tie as tie
 

@@ -1,8 +1,9 @@
-use Rattle.phase.proofs.Laws.{head-taken, phase-ok}
+-- `phase::head` meets its contract. Assumes nothing.
 use mathlib.Core.Path.{sym, _∙_}
-use Rattle.laws.specs.Choice.{cases}
-use Rattle.phase.specs.Answers.{headAnswer}
 use borrow.Author.Needs.{needs}
+use Rattle.laws.specs.Choice.{cases}
+use Rattle.phase.proofs.Laws.{head-taken, phase-ok}
+use Rattle.phase.specs.Answers.{headAnswer}
 use Rattle.phase.proofs.head.Statement.{statement}
 use Rattle.phase.proofs.head.Tie as tie
 

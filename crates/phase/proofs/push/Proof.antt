@@ -1,11 +1,12 @@
-use mir.Facts.{toZ-ofZ}
+-- `phase::push` meets its contract. Assumes nothing.
+use mathlib.Core.Path.{sym, _∙_}
+use borrow.Author.Needs.{needs}
 use denote.Ref.{now}
 use lib.ListN.{length}
-use Rattle.phase.proofs.Laws.{push-taken}
-use mathlib.Core.Path.{sym, _∙_}
+use mir.Facts.{toZ-ofZ}
 use Rattle.laws.specs.Choice.{cases}
+use Rattle.phase.proofs.Laws.{push-taken}
 use Rattle.phase.specs.Answers.{pushAnswer, pushStore}
-use borrow.Author.Needs.{needs}
 use Rattle.phase.proofs.push.Statement.{statement}
 use Rattle.phase.proofs.push.Tie as tie
 

@@ -1,6 +1,7 @@
+-- `phase::restart` meets its contract. Assumes nothing.
+use borrow.Author.Needs.{needs}
 use Rattle.laws.specs.Choice.{cases}
 use Rattle.phase.specs.Answers.{restartAnswer}
-use borrow.Author.Needs.{needs}
 use Rattle.phase.proofs.restart.Statement.{statement}
 use Rattle.phase.proofs.restart.Tie as tie
 

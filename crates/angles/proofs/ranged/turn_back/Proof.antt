@@ -1,13 +1,12 @@
 -- `angles::ranged::turn_back` meets its contract: products of 16-bit numbers are far from the ends of an i64. Assumes nothing.
-use mathlib.Core.Path.{refl}
 use Prim.Native.Nat.{_+_, _*_, _≤_}
 use native.Mathlib.Omega.{arith}
 use lib.IntN.{ℤ, natAbs, _+ℤ_, _-ℤ_, _*ℤ_}
 use mir.Facts.{toZ-ofZ}
 use mir.Syntax.{w64}
 use mir.Val.{toZ, ofZ}
-use Rattle.angles.specs.Angles.{turnedBack}
 use Rattle.laws.proofs.Size.{Num, arg-le, sfits-abs, times, plus, less, at, fits}
+use Rattle.angles.specs.Angles.{turnedBack}
 use Rattle.angles.proofs.ranged.turn_back.Statement.{statement}
 use Rattle.angles.proofs.ranged.turn_back.Tie as tie
 

@@ -1,13 +1,12 @@
 -- `angles::ranged::turn_from` meets its contract. Assumes nothing.
 use mathlib.Core.Path.{refl}
-use Prim.Native.Nat.{_≤_, _^_}
+use Prim.Native.Nat.{_≤_}
 use native.Mathlib.Omega.{arith}
 use borrow.Author.Needs.{needs}
-use lib.IntN.{natAbs}
 use mir.Facts.{toZ-ofZ}
+use Rattle.laws.proofs.Size.{wrapped, abs≤}
 use Rattle.angles.proofs.Laws.{turn-size}
 use Rattle.angles.specs.Angles.{turnFrom}
-use Rattle.laws.proofs.Size.{wrapped, abs≤}
 use Rattle.angles.proofs.ranged.turn_from.Statement.{statement}
 use Rattle.angles.proofs.ranged.turn_from.Tie as tie
 

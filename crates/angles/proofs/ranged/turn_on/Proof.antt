@@ -1,15 +1,15 @@
 -- `angles::ranged::turn_on` meets its contract. Assumes nothing.
-use Prim.Native.Nat.{ℕ, _+_, _^_, _%_, _≤_, _<_}
+use Prim.Native.Nat.{ℕ, _+_, _^_, _≤_, _<_}
 use native.Mathlib.Nat.{mod-lt}
 use native.Mathlib.Omega.{arith}
 use borrow.Author.Needs.{needs}
 use lib.Dec.{lit<}
 use lib.IntN.{ℤ, pos, natAbs, _+ℤ_}
-use mir.Facts.{toZ-ofZ, toZ-pos}
+use mir.Facts.{toZ-pos}
 use mir.Syntax.{w64}
-use mir.Val.{SFits, toZ, ofZ}
+use mir.Val.{toZ, ofZ}
+use Rattle.laws.proofs.Size.{Num, arg-le, plus, lit, at, fits, sfits-abs}
 use Rattle.angles.proofs.Laws.{turn-sum, turn-rest}
-use Rattle.laws.proofs.Size.{Num, num, arg-le, plus, lit, at, fits, sfits-abs}
 use Rattle.angles.proofs.ranged.turn_on.Statement.{statement}
 use Rattle.angles.proofs.ranged.turn_on.Tie as tie
 

@@ -1,6 +1,6 @@
-use Rattle.phase.specs.Phase.{begunOf}
+-- `phase::ranged::begun` meets its contract. Assumes nothing.
 use mathlib.Core.Path.{refl}
-use borrow.Author.Needs.{needs}
+use Rattle.phase.specs.Phase.{begunOf}
 use Rattle.phase.proofs.ranged.begun.Statement.{statement}
 use Rattle.phase.proofs.ranged.begun.Tie as tie
 

@@ -1,14 +1,13 @@
-use Rattle.phase.specs.Phase.{correctedOf, symbolAt}
-use Rattle.laws.proofs.Size.{sfits-abs, back}
-use lib.ListN.{getD}
-use mir.Val.{toZ, ofZ}
-use mir.Syntax.{w16, w64}
-use mir.Facts.{toZ-ofZ}
-use lib.IntN.{ℤ, pos, natAbs}
+-- `phase::ranged::corrected` meets its contract. Assumes nothing.
+use Prim.Native.Nat.{_+_, _*_}
 use native.Mathlib.Omega.{arith}
-use Prim.Native.Nat.{_+_, _*_, _≤_}
-use mathlib.Core.Path.{_∙_}
 use borrow.Author.Needs.{needs}
+use lib.IntN.{pos}
+use lib.ListN.{getD}
+use mir.Facts.{toZ-ofZ}
+use mir.Syntax.{w16, w64}
+use Rattle.laws.proofs.Size.{sfits-abs, back}
+use Rattle.phase.specs.Phase.{correctedOf, symbolAt}
 use Rattle.phase.proofs.ranged.corrected.Statement.{statement}
 use Rattle.phase.proofs.ranged.corrected.Tie as tie
 

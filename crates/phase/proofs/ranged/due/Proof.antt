@@ -1,9 +1,10 @@
-use Rattle.phase.specs.Ranges.{PhaseOk}
-use Rattle.phase.specs.Phase.{dueOf}
-use Rattle.laws.specs.Choice.{cases, if-yes, if-no}
-use borrow.Author.Tests.{eq-eqb, ne-eqb}
+-- `phase::ranged::due` meets its contract. Assumes nothing.
 use mathlib.Core.Path.{sym, subst}
 use borrow.Author.Needs.{needs}
+use borrow.Author.Tests.{eq-eqb, ne-eqb}
+use Rattle.laws.specs.Choice.{cases, if-yes, if-no}
+use Rattle.phase.specs.Phase.{dueOf}
+use Rattle.phase.specs.Ranges.{PhaseOk}
 use Rattle.phase.proofs.ranged.due.Statement.{statement}
 use Rattle.phase.proofs.ranged.due.Tie as tie
 

@@ -1,15 +1,15 @@
 -- `phase::ranged::gain_at` meets its contract. Assumes nothing.
 use mathlib.Core.Path.{refl, _∙_}
-use Prim.Native.Nat.{ℕ, _*_, _^_, _≤_, _<_}
+use Prim.Native.Nat.{_*_, _^_}
 use native.Mathlib.Omega.{arith}
 use borrow.Author.Needs.{needs}
-use lib.IntN.{ℤ, pos, natAbs, _*ℤ_}
+use lib.IntN.{ℤ, pos, _*ℤ_}
 use mir.Facts.{toZ-ofZ}
 use mir.Syntax.{w64}
 use mir.Val.{toZ, ofZ}
 use Rattle.angles.proofs.Laws.{round-near}
 use Rattle.fx.specs.Fx.{roundShift}
-use Rattle.laws.proofs.Size.{Num, arg-le, sfits-abs, plus, at, fits}
+use Rattle.laws.proofs.Size.{Num, arg-le, plus, at, fits}
 use Rattle.phase.proofs.Laws.{stepped}
 use Rattle.phase.specs.Phase.{gainAt}
 use Rattle.phase.proofs.ranged.gain_at.Statement.{statement}

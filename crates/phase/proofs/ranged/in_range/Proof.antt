@@ -1,5 +1,6 @@
-use Rattle.phase.specs.Ranges.{phaseInRange}
+-- `phase::ranged::in_range` meets its contract. Assumes nothing.
 use borrow.Author.Needs.{needs}
+use Rattle.phase.specs.Ranges.{phaseInRange}
 use Rattle.phase.proofs.ranged.in_range.Statement.{statement}
 use Rattle.phase.proofs.ranged.in_range.Tie as tie
 

@@ -1,12 +1,13 @@
-use Rattle.phase.specs.declared.SlotPhase.the-variants.{Holds}
-use mir.Facts.{toZ-ofZ}
-use lib.ListN.{length-set}
-use borrow.Author.Tests.{lt-ltb, le-ltb}
-use native.Mathlib.Omega.{arith}
+-- `phase::ranged::pushed` meets its contract. Assumes nothing.
 use mathlib.Core.Path.{sym, ap}
-use Rattle.phase.specs.Phase.{pushedOf, storedOf, countedOf}
-use Rattle.laws.specs.Choice.{cases, if-yes, if-no}
+use native.Mathlib.Omega.{arith}
 use borrow.Author.Needs.{needs}
+use borrow.Author.Tests.{lt-ltb, le-ltb}
+use lib.ListN.{length-set}
+use mir.Facts.{toZ-ofZ}
+use Rattle.laws.specs.Choice.{cases, if-yes, if-no}
+use Rattle.phase.specs.Phase.{pushedOf, storedOf, countedOf}
+use Rattle.phase.specs.declared.SlotPhase.the-variants.{Holds}
 use Rattle.phase.proofs.ranged.pushed.Statement.{statement}
 use Rattle.phase.proofs.ranged.pushed.Tie as tie
 

@@ -1,16 +1,14 @@
 -- `phase::ranged::scaled` meets its contract. Assumes nothing.
-use mathlib.Core.Path.{_≡_, refl, sym, _∙_}
-use Prim.Native.Nat.{ℕ, _*_, _^_, _≤_}
+use mathlib.Core.Path.{_≡_}
+use Prim.Native.Nat.{_*_, _^_, _≤_}
 use native.Mathlib.Omega.{arith}
 use borrow.Author.Needs.{needs}
-use lib.IntN.{ℤ, pos, natAbs, _*ℤ_}
+use lib.IntN.{ℤ, natAbs, _*ℤ_}
 use mir.Facts.{toZ-ofZ, sfits-widen}
 use mir.Syntax.{w16, w64}
 use mir.Val.{SFits, toZ, ofZ}
 use Rattle.angles.proofs.Laws.{turned-size}
 use Rattle.angles.specs.Angles.{turnedBack}
-use Rattle.fx.specs.Fx.{roundIndex, cosSinAt}
-use Rattle.fx.specs.declared.Parts.{Parts}
 use Rattle.laws.proofs.Size.{Num, arg-le, sfits-abs, times, at, fits, abs≤}
 use Rattle.phase.specs.Phase.{scaledOf}
 use Rattle.phase.proofs.ranged.scaled.Statement.{statement}

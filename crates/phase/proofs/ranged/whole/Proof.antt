@@ -1,14 +1,13 @@
-use Rattle.phase.specs.Phase.{gainOf, wholeOf}
-use Rattle.phase.proofs.Laws.{gain-size}
-use Rattle.laws.proofs.Size.{Num, sfits-abs, less, at, fits}
-use mir.Val.{toZ, ofZ}
-use mir.Syntax.{w64}
-use mir.Facts.{toZ-ofZ}
-use lib.IntN.{ℤ, natAbs}
-use native.Mathlib.Omega.{arith}
-use Prim.Native.Nat.{_+_, _≤_}
+-- `phase::ranged::whole` meets its contract. Assumes nothing.
 use mathlib.Core.Path.{_∙_}
+use native.Mathlib.Omega.{arith}
 use borrow.Author.Needs.{needs}
+use mir.Facts.{toZ-ofZ}
+use mir.Syntax.{w64}
+use mir.Val.{toZ, ofZ}
+use Rattle.laws.proofs.Size.{Num, sfits-abs, less, at, fits}
+use Rattle.phase.proofs.Laws.{gain-size}
+use Rattle.phase.specs.Phase.{gainOf, wholeOf}
 use Rattle.phase.proofs.ranged.whole.Statement.{statement}
 use Rattle.phase.proofs.ranged.whole.Tie as tie
 

@@ -1,6 +1,7 @@
+-- `phase::refusals::correct` meets its contract. Assumes nothing.
+use borrow.Author.Needs.{needs}
 use Rattle.laws.specs.Choice.{cases}
 use Rattle.phase.specs.Answers.{correctRefusal}
-use borrow.Author.Needs.{needs}
 use Rattle.phase.proofs.refusals.correct.Statement.{statement}
 use Rattle.phase.proofs.refusals.correct.Tie as tie
 

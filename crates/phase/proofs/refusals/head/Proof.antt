@@ -1,10 +1,11 @@
-use Rattle.laws.proofs.Size.{back}
-use mir.Syntax.{w64}
-use lib.Signed.{mag}
+-- `phase::refusals::head` meets its contract. Assumes nothing.
 use Prim.Native.Nat.{_<_, _^_}
+use borrow.Author.Needs.{needs}
+use lib.Signed.{mag}
+use mir.Syntax.{w64}
+use Rattle.laws.proofs.Size.{back}
 use Rattle.laws.specs.Choice.{cases}
 use Rattle.phase.specs.Answers.{headRefusal}
-use borrow.Author.Needs.{needs}
 use Rattle.phase.proofs.refusals.head.Statement.{statement}
 use Rattle.phase.proofs.refusals.head.Tie as tie
 

@@ -1,7 +1,8 @@
+-- `phase::refusals::held_past` meets its contract. Assumes nothing.
 use mathlib.Core.Path.{_∙_}
+use borrow.Author.Needs.{needs}
 use Rattle.laws.specs.Choice.{cases}
 use Rattle.phase.specs.Answers.{heldPast}
-use borrow.Author.Needs.{needs}
 use Rattle.phase.proofs.refusals.held_past.Statement.{statement}
 use Rattle.phase.proofs.refusals.held_past.Tie as tie
 

@@ -1,10 +1,11 @@
-use native.Mathlib.Omega.{arith}
+-- `phase::refusals::past` meets its contract. Assumes nothing.
 use mathlib.Core.Path.{_∙_, sym}
-use lib.Dec.{leb}
-use borrow.Author.Tests.{le-leb, leb-false, leb-true, lt-leb}
-use Rattle.laws.proofs.Tests.{by-test}
 use Prim.Native.Nat.{_+_, _-_, _^_}
+use native.Mathlib.Omega.{arith}
 use borrow.Author.Needs.{needs}
+use borrow.Author.Tests.{le-leb, leb-false, leb-true, lt-leb}
+use lib.Dec.{leb}
+use Rattle.laws.proofs.Tests.{by-test}
 use Rattle.phase.proofs.refusals.past.Statement.{statement}
 use Rattle.phase.proofs.refusals.past.Tie as tie
 

@@ -1,5 +1,6 @@
-use Rattle.phase.specs.Answers.{pastEnd}
+-- `phase::refusals::past_end` meets its contract. Assumes nothing.
 use borrow.Author.Needs.{needs}
+use Rattle.phase.specs.Answers.{pastEnd}
 use Rattle.phase.proofs.refusals.past_end.Statement.{statement}
 use Rattle.phase.proofs.refusals.past_end.Tie as tie
 

@@ -1,5 +1,6 @@
-use Rattle.phase.specs.Answers.{placePast}
+-- `phase::refusals::place_past` meets its contract. Assumes nothing.
 use borrow.Author.Needs.{needs}
+use Rattle.phase.specs.Answers.{placePast}
 use Rattle.phase.proofs.refusals.place_past.Statement.{statement}
 use Rattle.phase.proofs.refusals.place_past.Tie as tie
 

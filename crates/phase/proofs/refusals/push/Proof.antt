@@ -1,6 +1,7 @@
+-- `phase::refusals::push` meets its contract. Assumes nothing.
+use borrow.Author.Needs.{needs}
 use Rattle.laws.specs.Choice.{cases}
 use Rattle.phase.specs.Answers.{pushRefusal}
-use borrow.Author.Needs.{needs}
 use Rattle.phase.proofs.refusals.push.Statement.{statement}
 use Rattle.phase.proofs.refusals.push.Tie as tie
 

@@ -1,9 +1,10 @@
-use Rattle.phase.specs.Ranges.{wholeInRange}
-use Rattle.laws.proofs.Size.{back}
-use mir.Syntax.{w64}
-use lib.Signed.{mag}
+-- `phase::refusals::whole_in_range` meets its contract. Assumes nothing.
 use Prim.Native.Nat.{_<_, _^_}
 use borrow.Author.Needs.{needs}
+use lib.Signed.{mag}
+use mir.Syntax.{w64}
+use Rattle.laws.proofs.Size.{back}
+use Rattle.phase.specs.Ranges.{wholeInRange}
 use Rattle.phase.proofs.refusals.whole_in_range.Statement.{statement}
 use Rattle.phase.proofs.refusals.whole_in_range.Tie as tie
 

@@ -3,7 +3,8 @@ use mathlib.Core.Path.{_≡_, refl, ap₂, _∙_}
 use Prim.Native.Nat.{_-_, _≤_}
 use native.Mathlib.Numerals.{add-one}
 use native.Mathlib.Omega.{arith}
-use lib.ListN.{length}
+use lib.IntN.{pos}
+use lib.ListN.{length, getD}
 use mir.Facts.{toZ-ofZ}
 use borrow.Author.Needs.{needs}
 use Rattle.solve.specs.Answers.{wideAmong}
@@ -37,10 +38,16 @@ loop-less c = search needs
 
 loop-again : tie.Need-loop-again Inv-loop μ-loop
 unfolding wideAmong
-loop-again c = ?
+loop-again c =
+    let h = c .before .before .before in
+    let e = rw (toZ-ofZ (record { sfits = c .before .wide-arg .given })) at (c .wide .ensures) in
+    (search needs, rw (add-one (h .loop .k)) (ap₂ _||_ (h .loop .inv .1) e))
 
 returns : tie.Need-returns Inv-loop μ-loop
-returns c = ?
+returns c =
+    let h = c .before in
+    let e : h .loop .k ≡ length (h .before .args .l .now) = omega arith in
+    rw e at (h .loop .inv .1)
 
 pub any-wide-spec : {M : Type 1} → statement M
 any-wide-spec =

@@ -1,3 +1,4 @@
+use mir.Facts.{toZ-ofZ}
 use borrow.Author.Needs.{needs}
 use Rattle.solve.specs.System.{pairOf}
 use Rattle.solve.proofs.system.right_pair.Statement.{statement}
@@ -32,7 +33,10 @@ nearest-i64-to-f64-requires-2 c κs = search needs
 
 returns : tie.Need-returns
 unfolding pairOf
-returns c = ?
+returns c =
+    let re = rw (toZ-ofZ (record { sfits = c .before .before .before .re .given })) at (c .before .nearest-i64-to-f64 .ensures) in
+    let im = rw (toZ-ofZ (record { sfits = c .before .before .im .given })) at (c .nearest-i64-to-f642 .ensures) in
+    rw (re, im)
 
 pub right-pair-spec : {M : Type 1} → statement M
 right-pair-spec =

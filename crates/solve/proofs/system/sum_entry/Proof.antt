@@ -23,11 +23,13 @@ conjugate-requires c κs = search needs
 
 returns : tie.Need-returns
 unfolding entryOf
-returns c = ?
+returns c =
+    rw (c .upper-pair .ensures, c .before .upper .ensures .0) (sym (if-yes _ _ _ (lt-ltb _ _ (c .before .before .if1 .taken))))
 
 returns-2 : tie.Need-returns-2
 unfolding entryOf
-returns-2 c = ?
+returns-2 c =
+    rw (c .conjugate .ensures, c .before .upper-pair2 .ensures, c .before .before .upper2 .ensures .0) (sym (if-no _ _ _ (le-ltb _ _ (c .before .before .before .if1 .left))))
 
 pub sum-entry-spec : {M : Type 1} → statement M
 sum-entry-spec =

@@ -13,17 +13,17 @@ add-result : tie.Need-add-result
 add-result c = search needs
 
 mul-result-2 : tie.Need-mul-result-2
-mul-result-2 c = ?
+mul-result-2 c = search (needs, product-most (c .args .r) (omega arith))
 
 sub-result : tie.Need-sub-result
-sub-result c = ?
+sub-result c = omega (arith, product-most (c .args .r) (omega arith))
 
 add-result-2 : tie.Need-add-result-2
-add-result-2 c = ?
+add-result-2 c = search needs
 
 returns : tie.Need-returns
 unfolding upperAt
-returns c = ?
+returns c = (refl, omega (arith, start-most (c .args .r) (omega arith)))
 
 pub upper-spec : {M : Type 1} → statement M
 upper-spec =

@@ -1,11 +1,12 @@
 use mathlib.Core.Path.{refl}
 use borrow.Author.Needs.{needs}
 use Rattle.solve.specs.Answers.{refusedBy}
+use Rattle.solve.specs.Taps.{noTaps}
 use Rattle.solve.proofs.taps.refused.Statement.{statement}
 use Rattle.solve.proofs.taps.refused.Tie as tie
 
 returns : tie.Need-returns
-unfolding refusedBy
+unfolding noTaps refusedBy
 returns c = refl
 
 pub refused-spec : {M : Type 1} → statement M

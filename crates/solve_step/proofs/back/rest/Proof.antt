@@ -44,10 +44,10 @@ loop-less c = search needs
 
 loop-again : tie.Need-loop-again Inv-loop μ-loop
 loop-again c = (
-      search needs,
-      rw (c .subtract .ensures, c .before .multiply .ensures, c .before .before .right .ensures, c .before .before .before .entry .ensures)
+  search needs,
+  rw (c .subtract .ensures, c .before .multiply .ensures, c .before .before .right .ensures, c .before .before .before .entry .ensures)
       (sym (rest-turn _ _ _ _ _ (c .before .before .before .before .loop-test .taken)) ∙ c .before .before .before .before .before .loop .inv .1),
-    )
+)
 
 returns : tie.Need-returns Inv-loop μ-loop
 returns c = sym (rest-ended _ _ _ _ _ (c .loop-test .left)) ∙ c .before .loop .inv .1

@@ -1,0 +1,4 @@
+-- Numbers as bytes, and what a program that replays calls writes.
+pub mod Wire
+pub mod Digest
+pub mod Blocks
