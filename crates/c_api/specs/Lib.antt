@@ -1,2 +1,3 @@
 -- How answers cross to C: docs/DECISIONS.md, F.3.
 pub mod Api
+pub mod Stages

@@ -1,5 +1,7 @@
 // The C boundary: each entry of the port as a C function, with no `requires`, since C could not be held to one. An answer is a struct
-// by value (docs/DECISIONS.md, F.3).
+// by value (docs/DECISIONS.md, F.3). Here is fx; `stages` has the rest.
+pub mod stages;
+
 use fx::Phasor;
 use fx::Scaled;
 use fx::Turned;

@@ -43,19 +43,6 @@ pub nco-ok : (n : Nco) → ncoInRange n ≡ true → NcoOk n
 unfolding ncoInRange
 nco-ok n e = record { trail = trail-ok (n .trail) e }
 
-or-false : (t : Bool) → (t || false) ≡ t
-or-false true = refl
-or-false false = refl
-
--- both ends of the sizes that are taken are one test of the size
-pub wide-ends : (z : ℤ) → (ltZ z (minus (2 ^ 60)) || ltZ (pos (2 ^ 60)) z) ≡ wide z
-wide-ends (pos a) = refl
-wide-ends (negsuc a) = or-false (ltb 1152921504606846975 a) ∙ same (ltb 1152921504606846975 a) refl
-  where
-    same : (t : Bool) → ltb 1152921504606846975 a ≡ t → ltb 1152921504606846975 a ≡ ltb (2 ^ 60) (suc a)
-    same true e = e ∙ sym (lt-ltb (2 ^ 60) (suc a) (omega (arith, ltb-true 1152921504606846975 a e)))
-    same false e = e ∙ sym (le-ltb (2 ^ 60) (suc a) (omega (arith, ltb-false 1152921504606846975 a e)))
-
 -- ---- what is accepted
 apart : (k : ℕ) → suc k ≡ 0 → ⊥
 apart k e = omega arith

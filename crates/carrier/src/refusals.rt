@@ -3,7 +3,6 @@ use crate::Nco;
 use crate::ranged;
 use sync_heads::Head;
 ghost use mathlib.Core.Path.{_≡_};
-ghost use Rattle.fx.specs.Answers.{wide};
 ghost use Rattle.carrier.specs.Answers.{rotateRefusal, headRefusal};
 
 pub(crate) fn rotate(n: Nco, len: usize) -> u8
@@ -16,18 +15,11 @@ pub(crate) fn rotate(n: Nco, len: usize) -> u8
     }
 }
 
-// Of size over 2^60.
-fn wide(v: i64) -> bool
-    ensures { λ r. ⌜ r ≡ wide v ⌝ }
-{
-    (v < -0x1000_0000_0000_0000) | (0x1000_0000_0000_0000 < v)
-}
-
 pub(crate) fn head(n: Nco, h: Head) -> u8
     ensures { λ r. ⌜ r ≡ headRefusal n h ⌝ }
 {
     if ranged::in_range(n) {
-        if wide(h.amp) {
+        if fx::ranged::wide(h.amp) {
             6
         } else if 0x4000_0000_0000_0000 <= h.at {
             7
