@@ -1,8 +1,8 @@
 -- `c_api::of_phasor` meets its contract. Assumes nothing.
-use mir.Val.{SFits}
-use mir.Syntax.{w64}
-use mir.Facts.{toZ-ofZ}
 use borrow.Author.Needs.{needs}
+use mir.Facts.{toZ-ofZ}
+use mir.Syntax.{w64}
+use mir.Val.{SFits}
 use Rattle.c_api.specs.Api.{phasorNumbers}
 use Rattle.c_api.proofs.of_phasor.Statement.{statement}
 use Rattle.c_api.proofs.of_phasor.Tie as tie

@@ -1,9 +1,9 @@
 -- `c_api::of_turned` meets its contract. Assumes nothing.
-use mir.Val.{SFits}
-use mir.Syntax.{w64}
-use mir.Facts.{toZ-ofZ, toZ-pos}
-use lib.IntN.{pos}
 use borrow.Author.Needs.{needs}
+use lib.IntN.{pos}
+use mir.Facts.{toZ-ofZ, toZ-pos}
+use mir.Syntax.{w64}
+use mir.Val.{SFits}
 use Rattle.c_api.specs.Api.{polarNumbers}
 use Rattle.c_api.proofs.of_turned.Statement.{statement}
 use Rattle.c_api.proofs.of_turned.Tie as tie

@@ -1,8 +1,8 @@
 -- `c_api::of_whole` meets its contract. Assumes nothing.
-use mir.Val.{SFits}
-use mir.Syntax.{w64}
-use mir.Facts.{toZ-ofZ}
 use borrow.Author.Needs.{needs}
+use mir.Facts.{toZ-ofZ}
+use mir.Syntax.{w64}
+use mir.Val.{SFits}
 use Rattle.c_api.specs.Api.{number}
 use Rattle.c_api.proofs.of_whole.Statement.{statement}
 use Rattle.c_api.proofs.of_whole.Tie as tie

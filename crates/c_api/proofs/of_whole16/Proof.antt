@@ -1,8 +1,8 @@
 -- `c_api::of_whole16` meets its contract. Assumes nothing.
-use mir.Val.{SFits}
-use mir.Syntax.{w64, w16}
-use mir.Facts.{toZ-ofZ, sfits-widen}
 use borrow.Author.Needs.{needs}
+use mir.Facts.{toZ-ofZ, sfits-widen}
+use mir.Syntax.{w64, w16}
+use mir.Val.{SFits}
 use Rattle.c_api.specs.Api.{number16}
 use Rattle.c_api.proofs.of_whole16.Statement.{statement}
 use Rattle.c_api.proofs.of_whole16.Tie as tie

@@ -1,8 +1,8 @@
 -- `c_api::of_whole32` meets its contract. Assumes nothing.
-use mir.Val.{SFits}
-use mir.Syntax.{w64, w32}
-use mir.Facts.{toZ-ofZ, sfits-widen}
 use borrow.Author.Needs.{needs}
+use mir.Facts.{toZ-ofZ, sfits-widen}
+use mir.Syntax.{w64, w32}
+use mir.Val.{SFits}
 use Rattle.c_api.specs.Api.{number32}
 use Rattle.c_api.proofs.of_whole32.Statement.{statement}
 use Rattle.c_api.proofs.of_whole32.Tie as tie

@@ -1,8 +1,8 @@
 -- `c_api::of_whole8` meets its contract. Assumes nothing.
-use mir.Val.{SFits}
-use mir.Syntax.{w64, w8}
-use mir.Facts.{toZ-ofZ, sfits-widen}
 use borrow.Author.Needs.{needs}
+use mir.Facts.{toZ-ofZ, sfits-widen}
+use mir.Syntax.{w64, w8}
+use mir.Val.{SFits}
 use Rattle.c_api.specs.Api.{number8}
 use Rattle.c_api.proofs.of_whole8.Statement.{statement}
 use Rattle.c_api.proofs.of_whole8.Tie as tie

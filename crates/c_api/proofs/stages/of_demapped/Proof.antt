@@ -1,8 +1,9 @@
+-- `c_api::stages::of_demapped` meets its contract. Assumes nothing.
+use borrow.Author.Needs.{needs}
 use mir.Facts.{toZ-ofZ}
 use mir.Syntax.{w64}
 use mir.Val.{SFits}
 use Rattle.c_api.specs.Stages.{demapped}
-use borrow.Author.Needs.{needs}
 use Rattle.c_api.proofs.stages.of_demapped.Statement.{statement}
 use Rattle.c_api.proofs.stages.of_demapped.Tie as tie
 

@@ -1,7 +1,8 @@
-use Rattle.c_api.specs.Stages.{demapped}
-use mir.Facts.{toZ-ofZ}
+-- `c_api::stages::sv_demap` meets its contract. Assumes nothing.
 use mathlib.Core.Path.{ap, _∙_}
 use borrow.Author.Needs.{needs}
+use mir.Facts.{toZ-ofZ}
+use Rattle.c_api.specs.Stages.{demapped}
 use Rattle.c_api.proofs.stages.sv_demap.Statement.{statement}
 use Rattle.c_api.proofs.stages.sv_demap.Tie as tie
 

@@ -1,7 +1,8 @@
-use Rattle.c_api.specs.Api.{number}
-use mir.Facts.{toZ-ofZ}
+-- `c_api::stages::sv_gain_of` meets its contract. Assumes nothing.
 use mathlib.Core.Path.{ap, _∙_}
 use borrow.Author.Needs.{needs}
+use mir.Facts.{toZ-ofZ}
+use Rattle.c_api.specs.Api.{number}
 use Rattle.c_api.proofs.stages.sv_gain_of.Statement.{statement}
 use Rattle.c_api.proofs.stages.sv_gain_of.Tie as tie
 

@@ -1,11 +1,12 @@
-use Rattle.carrier.specs.Carrier.{startedNco}
-use Rattle.c_api.specs.Stages.{rotation}
-use Rattle.laws.proofs.Size.{back}
-use mir.Facts.{toZ-ofZ}
-use mir.Syntax.{w16}
-use lib.Signed.{mag}
+-- `c_api::stages::sv_rotate` meets its contract. Assumes nothing.
 use Prim.Native.Nat.{_<_, _^_}
 use borrow.Author.Needs.{needs}
+use lib.Signed.{mag}
+use mir.Facts.{toZ-ofZ}
+use mir.Syntax.{w16}
+use Rattle.carrier.specs.Carrier.{startedNco}
+use Rattle.laws.proofs.Size.{back}
+use Rattle.c_api.specs.Stages.{rotation}
 use Rattle.c_api.proofs.stages.sv_rotate.Statement.{statement}
 use Rattle.c_api.proofs.stages.sv_rotate.Tie as tie
 
