@@ -1,10 +1,13 @@
 #!/bin/bash
-# bench.sh: time and instructions of a call of fx and of a symbol of the slot sync, the Rust beside the port, each from one driver.
+# bench.sh: time and instructions of a call of fx, and of a symbol of the slot sync, of a rotation and of a correction: the Rust beside
+# the port, each from one driver.
 set -eu
 . "$(dirname "$0")/common.sh"
 need_rust
 need_port
-[ -f "$port/libsync_bench.a" ] || { echo "$0: no libsync_bench.a in $port: run 'rt staticlib sync_bench' first" >&2; exit 1; }
+for bench in sync_bench phase_bench; do
+    [ -f "$port/lib$bench.a" ] || { echo "$0: no lib$bench.a in $port: run 'rt staticlib $bench' first" >&2; exit 1; }
+done
 out=$root/target/compare
 mkdir -p "$out/fast"
 
@@ -13,9 +16,11 @@ originals "$out/fast"
 with_port "$port"
 program "$out/fast" bench_fx.rs "$out/bench_fx" -C lto=fat "${port_flags[@]}"
 program "$out/fast" bench_sync.rs "$out/bench_sync" -C lto=fat -L "native=$port" -l static=sync_bench
-"$out/bench_fx" time
-echo
-"$out/bench_sync" time
+program "$out/fast" bench_phase.rs "$out/bench_phase" -C lto=fat -L "native=$port" -l static=phase_bench --extern isdb_frontend
+for bench in bench_fx bench_sync bench_phase; do
+    "$out/$bench" time
+    echo
+done
 
 # instructions PROGRAM ARGUMENT...: of the whole run
 instructions() {
@@ -29,7 +34,6 @@ line() {
     awk -v f="$1" -v r="$2" -v p="$3" -v n="$4" 'BEGIN { printf "%-14s %9.1f %9.1f %6.2f\n", f, r / n, p / n, p / r }'
 }
 
-echo
 command -v valgrind >/dev/null || { echo "no valgrind: instructions not counted"; exit 0; }
 printf '%-14s %9s %9s %6s\n' 'instructions' Rust port ratio
 for function in cordic round_shift mag_approx cos_sin_round; do
@@ -51,4 +55,13 @@ for entry in feed feed_1000 feed_100 feed_10 feed_1 push; do
     rust=$(locked $entry rust)
     ours=$(locked $entry port)
     line $entry $((rust - none)) $((ours - none)) $((4 * 9296))
+done
+
+echo
+printf '%-14s %9s %9s %6s\n' 'instructions' Rust port ratio
+for entry in rotate correct; do
+    none=$(instructions bench_phase $entry none)
+    rust=$(instructions bench_phase $entry rust)
+    ours=$(instructions bench_phase $entry port)
+    line $entry $((rust - none)) $((ours - none)) 9296
 done
