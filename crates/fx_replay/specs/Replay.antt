@@ -1,14 +1,15 @@
 -- The answers to calls, by the definitions of fx and the C boundary.
-use Prim.Native.Nat.{ℕ, zero, suc, _%_, _^_}
+use Prim.Native.Nat.{ℕ, _%_, _^_}
 use mathlib.Core.List.{List, [], _∷_, _++_}
 use lib.IntN.{ℤ, pos}
-use lib.ListN.{getD, drop}
+use lib.ListN.{getD}
 use Rattle.fx.specs.Fx.{signedAngle}
 use Rattle.fx.specs.Answers.{roundShiftAnswer, divRoundAnswer, magApproxAnswer, sat16Answer, sat127Answer, sat32Answer, cordicAnswer, cordicScaleAnswer, cosSinTruncAnswer, cosSinRoundAnswer}
 use Rattle.c_api.specs.Api.{two, none2, number, number32, number16, number8, polarNumbers, partNumbers, phasorNumbers}
 use Rattle.c_api.specs.declared.Number.{Number}
 use Rattle.c_api.specs.declared.Numbers.{Numbers}
-use Rattle.fx_replay.specs.Wire.{wordAt, signed, bits, bytesOf}
+use Rattle.wire.specs.Wire.{wordAt, signed, bits, bytesOf}
+use Rattle.wire.specs.Blocks.{replayed as replayedBy}
 
 -- a single value is x; y is 0
 abbrev pub alone : Number → Numbers
@@ -42,7 +43,9 @@ encoded n = bytesOf (n .refusal) ++ bytesOf (bits (n .first)) ++ bytesOf (bits (
 unfoldable pub answerBytes : List ℤ → List ℕ → List ℕ
 answerBytes table s = encoded (answerOf table (wordAt s 0) (wordAt s 8) (wordAt s 16))
 
--- the answers to the first n calls of s, and what follows those calls
-unfoldable pub replayed : List ℤ → ℕ → List ℕ → List ℕ
-replayed table zero s = s
-replayed table (suc n) s = answerBytes table s ++ replayed table n (drop 24 s)
+-- the answers to the first n calls of s, each of 24 bytes, and what follows those calls; the table stays
+abbrev pub same : List ℤ → List ℕ → List ℤ
+same table s = table
+
+abbrev pub replayed : List ℤ → ℕ → List ℕ → List ℕ
+replayed table n s = replayedBy 24 answerBytes same table n s

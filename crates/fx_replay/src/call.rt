@@ -1,9 +1,8 @@
 // One call: its bytes, its answer, and that answer's bytes.
-use crate::wire;
 use c_api::Number;
 use c_api::Numbers;
 ghost use mathlib.Core.Path.{_≡_};
-ghost use Prim.Native.Nat.{_+_, _≤_, _%_, _^_};
+ghost use Prim.Native.Nat.{_+_, _≤_};
 ghost use lib.ListN.{length, drop};
 ghost use lib.Seq.{paste};
 ghost use Rattle.fx_replay.specs.Replay.{alone, answerOf, answerBytes};
@@ -19,21 +18,14 @@ fn single(n: Number) -> Numbers
     }
 }
 
-// The low half of a field is its u32.
-fn low(u: u64) -> u32
-    ensures { λ r. ⌜ r ≡ u % 2 ^ 32 ⌝ }
-{
-    (u % 4294967296) as u32
-}
-
-// The answer of function op; 255 is no refusal of document 01.
+// The answer of function op; 255 is no refusal of document 01. The low half of a field is its u32.
 fn answer(table: &[i16], op: u64, a: u64, b: u64) -> Numbers
     ensures { λ r. ⌜ r ≡ answerOf (now (table .entry)) op a b ⌝ }
 {
     let x = wire::of_bits(a);
     let y = wire::of_bits(b);
     match op {
-        0 => single(c_api::sv_round_shift(x, low(b))),
+        0 => single(c_api::sv_round_shift(x, wire::low32(b))),
         1 => single(c_api::sv_sat16(x)),
         2 => single(c_api::sv_sat127(x)),
         3 => single(c_api::sv_sat32(x)),
@@ -41,12 +33,12 @@ fn answer(table: &[i16], op: u64, a: u64, b: u64) -> Numbers
         5 => c_api::sv_cordic(x, y),
         6 => c_api::sv_cordic_scale(x, y),
         7 => Numbers {
-            first: c_api::sv_signed_angle(low(a)),
+            first: c_api::sv_signed_angle(wire::low32(a)),
             second: 0,
             refusal: 0,
         },
-        8 => c_api::sv_cos_sin_trunc(table, low(a)),
-        9 => c_api::sv_cos_sin_round(table, low(a)),
+        8 => c_api::sv_cos_sin_trunc(table, wire::low32(a)),
+        9 => c_api::sv_cos_sin_round(table, wire::low32(a)),
         10 => single(c_api::sv_div_round(x, y)),
         _ => Numbers {
             first: 0,
@@ -61,7 +53,12 @@ fn answer_bytes(table: &[i16], s: &[u8]) -> [u8; 24]
     requires { ⌜ 24 ≤ length (now s) ⌝ }
     ensures { λ r. ⌜ r ≡ answerBytes (now (table .entry)) (now (s .entry)) ⌝ }
 {
-    let a = answer(table, wire::word(s, 0), wire::word(s, 8), wire::word(s, 16));
+    let a = answer(
+        table,
+        wire::ranged::word(s, 0),
+        wire::ranged::word(s, 8),
+        wire::ranged::word(s, 16),
+    );
     let x = a.first;
     let y = a.second;
     wire::three(a.refusal as u64, wire::to_bits(x), wire::to_bits(y))

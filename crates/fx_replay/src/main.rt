@@ -3,7 +3,6 @@
 // is not is refused with 255, a number that document 01 gives no meaning.
 // Input that ends within the table or a call is told on standard error: a Rattle program has no exit status to tell it by.
 mod call;
-mod wire;
 
 ghost use mathlib.Core.Path.{_≡_};
 ghost use Prim.Native.Nat.{_*_, _≤_};

@@ -3,23 +3,24 @@ use mathlib.Core.Path.{_≡_, refl, sym, ap, _∙_}
 use mathlib.Core.Bool.{Bool, true, false, _&&_, _||_}
 use mathlib.Core.List.{List, [], _∷_, _++_, append-assoc, append-nil}
 use mathlib.Core.Logic.{⊎-elim}
-use Prim.Native.Nat.{ℕ, zero, suc, _+_, _-_, _*_, _/_, _^_, _≤_, _<_}
+use Prim.Native.Nat.{ℕ, zero, suc, _+_, _-_, _*_, _/_, _^_, _≤_, _<_, zero-le}
 use native.Mathlib.Nat.{eq-or-lt-of-le, le-of-suc-le-suc, not-suc-le-zero, mul-le-mul-left}
 use native.Mathlib.Numerals.{add-one}
 use native.Mathlib.Omega.{arith}
 use borrow.Author.Tests.{leb-true, ltb-true, ltb-false, lt-ltb, le-ltb}
-use lib.Dec.{ltb, leb}
-use lib.Ieee.{Float, nan, binary64, ofBits}
+use lib.Dec.{T, ltb, leb, eqb, le→leb, lt→ltb}
+use lib.Ieee.{Float, nan, binary64, ofBits, inFloat}
 use lib.IntN.{ℤ, pos, negsuc, natAbs}
-use lib.ListN.{getD, set, length, drop, replicate, length-append, length-replicate, drop-of-length-le}
+use lib.ListN.{getD, set, length, drop, replicate, length-append, length-replicate, drop-of-length-le, List·getD-eq-default}
 use lib.Seq.{drop-cons, set-at}
 use lib.Signed.{ltZ}
 use Rattle.laws.proofs.Lists.{firsts-step}
 use Rattle.laws.specs.Ranges.{firsts}
-use Rattle.laws.proofs.Tests.{and-both, by-test}
-use Rattle.solve.specs.Answers.{wide}
-use Rattle.solve.specs.System.{parts}
+use Rattle.laws.proofs.Tests.{and-both, by-test, neither}
+use Rattle.solve.specs.Answers.{wide, wideAmong, anyWide, outsideOf}
+use Rattle.solve.specs.System.{Narrow, parts}
 use Rattle.solve.specs.Taps.{noTaps}
+use Rattle.sums.specs.declared.Sums.{Sums}
 use Rattle.solve_step.specs.Complex.{withEntry}
 use Rattle.solve_step.specs.declared.complex.Complex.{Complex}
 
@@ -37,6 +38,38 @@ wide-is (negsuc a) = or-no (ltb (2 ^ 53 - 1) a) ∙ one-up (2 ^ 53 - 1) a
         by-test (ltb m a)
         (λ t. t ∙ sym (lt-ltb (m + 1) (suc a) (omega (arith, ltb-true m a t))))
         (λ t. t ∙ sym (le-ltb (m + 1) (suc a) (omega (arith, ltb-false m a t))))
+
+-- a test that finds none leaves every entry narrow, and so a double
+within : (l : List ℤ) (n k : ℕ) → wideAmong l n ≡ false → k < n → natAbs (getD l k (pos 0)) ≤ 2 ^ 53
+unfolding wideAmong
+within l zero k e h = absurd (not-suc-le-zero h)
+within l (suc n) k e h =
+    let b = neither (wideAmong l n) (wide (getD l n (pos 0))) e in
+    ⊎-elim
+    (λ (q : k ≡ n). rw q (ltb-false (2 ^ 53) (natAbs (getD l n (pos 0))) (b .1)))
+    (λ (j : k < n). within l n k (b .0) j)
+    (eq-or-lt-of-le (le-of-suc-le-suc h))
+
+narrow : (l : List ℤ) → anyWide l ≡ false → Narrow l
+narrow l e =
+    record {
+      small = λ k.
+          by-test (ltb k (length l))
+          (λ t. within l (length l) k e (ltb-true k (length l) t))
+          (λ t. rw (List·getD-eq-default l (pos 0) (ltb-false k (length l) t)) zero-le);
+    }
+
+pub taken : (s : Sums) → outsideOf s ≡ false → (Narrow (s .r)) × (Narrow (s .p))
+unfolding outsideOf
+taken s e =
+    let p = neither (eqb (s .count) 0 || ltb 4194304 (s .count) || anyWide (s .r)) (anyWide (s .p)) e in
+    let r = neither (eqb (s .count) 0 || ltb 4194304 (s .count)) (anyWide (s .r)) (p .0) in
+    (narrow (s .r) (r .1), narrow (s .p) (p .1))
+
+pub in-float : (v : ℤ) → natAbs v ≤ 2 ^ 53 → T (inFloat binary64 v)
+unfolding inFloat
+in-float (pos n) h = le→leb n (2 ^ 53) h
+in-float (negsuc n) h = lt→ltb n (2 ^ 53) h
 
 -- ---- the place of an upper entry
 -- a test that all numbers below n pass

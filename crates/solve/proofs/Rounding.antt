@@ -1,12 +1,12 @@
 -- Rounding with halves away from zero by doubling: twice a double is exact, its whole part n is cut off exactly, and (n + 1) / 2 is the rounded number.
 -- Assumes nothing.
 use mathlib.Core.Path.{_≡_, refl, sym, ap, _∙_, subst}
-use mathlib.Core.Bool.{Bool, true, false, cond, not, _&&_}
+use mathlib.Core.Bool.{true, false, _&&_}
 use Prim.Native.Nat.{ℕ, zero, suc, _+_, _-_, _*_, _/_, _%_, _^_, min, _<_, _≤_}
 use native.Mathlib.Nat.{mul-assoc, mul-comm, mul-left-comm, mul-one, one-mul, mul-pos, mul-lt-mul-of-pos-right, lt-of-mul-lt-mul-right, lt-of-lt-of-le, lt-of-not-le, not-le-of-lt, le-of-suc-le-suc, div-div-eq-div-mul, add-div-right, div-lt-iff-lt-mul, le-div-iff-mul-le, min-eq-left, min-eq-right, zero-div}
 use native.Mathlib.Omega.{arith}
 use lib.Dec.{T, ltb, leb, eqb, lt→ltb, ltb→lt, leb→le, lit<, lit≤}
-use lib.Pow.{pow-add, pow-lt, pow-pos}
+use lib.Pow.{pow-add, pow-lt}
 use lib.IntN.{ℤ, pos, negsuc, negℤ, _-ℤ_, +ℤ-idl}
 use mir.Syntax.{w16}
 use mir.Val.{SFits, toZ, ofZ}
@@ -16,7 +16,7 @@ use lib.Ieee.Exact.{HasValue, round-exact}
 use lib.Ieee.Fits.{down-pos, and-l, and-r}
 use lib.Ieee.Nearest.{div-same}
 use borrow.Author.Tests.{ltb-true, ltb-false, lt-ltb}
-use Rattle.laws.specs.Choice.{if_then_else_, minus}
+use Rattle.laws.specs.Choice.{if_then_else_}
 use Rattle.solve.specs.Taps.{nearestOf, sizeOf, roundedOf}
 
 -- ---- twice m * 2 ^ e is a whole number of the smallest values

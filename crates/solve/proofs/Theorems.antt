@@ -1,28 +1,23 @@
 -- What the definitions of solve mean. Each statement stands above its proof. Assumes nothing.
-use mathlib.Core.Bool.{Bool, true, false, _||_}
+use mathlib.Core.Bool.{Bool, true, false}
 use mathlib.Core.List.{List, [], _∷_, _++_}
 use mathlib.Core.Logic.{⊎-elim}
-use mathlib.Core.Path.{_≡_, refl, sym, ap, ap₂, _∙_}
+use mathlib.Core.Path.{_≡_, refl, sym, ap, _∙_}
 use Prim.Native.Nat.{ℕ, zero, suc, _+_, _-_, _*_, _/_, _%_, _^_, min, _≤_, _<_}
-use native.Mathlib.Nat.{eq-or-lt-of-le, le-of-suc-le-suc, not-suc-le-zero, le-refl, le-div-iff-mul-le, div-lt-iff-lt-mul, mul-pos}
+use native.Mathlib.Nat.{eq-or-lt-of-le, le-of-suc-le-suc, not-suc-le-zero, le-refl, le-div-iff-mul-le, div-lt-iff-lt-mul}
 use native.Mathlib.Omega.{arith}
-use borrow.Author.Tests.{ltb-false}
-use lib.Dec.{eqb, ltb}
-use lib.Ieee.{Float, nan, inf, fin, binary64, ofBits, ofInt, round, mul, up, down}
+use lib.Ieee.{Float, nan, inf, fin, binary64, ofBits, ofInt, mul, up, down}
 use lib.Ieee.Back.{round-whole}
 use lib.Ieee.Exact.{HasValue}
 use lib.IntN.{ℤ, pos, negsuc, natAbs}
 use lib.ListN.{getD, length, List·getD-append}
 use lib.Seq.{getD-at, getD-append-add}
-use lib.Signed.{_≤ℤ_}
-use Rattle.laws.proofs.Linear.{le-ud, neg-ud}
-use Rattle.laws.proofs.Tests.{neither}
 use Rattle.laws.specs.Choice.{if_then_else_, minus}
 use Rattle.solve_step.specs.Complex.{entryAt, place}
 use Rattle.solve_step.specs.declared.complex.Complex.{Complex}
-use Rattle.solve.proofs.Laws.{length-parts}
-use Rattle.solve.specs.Answers.{wide, wideAmong, anyWide, outsideOf}
-use Rattle.solve.specs.System.{pairOf, entryOf, parts, matrixOf, rightOf}
+use Rattle.solve.proofs.Laws.{taken, length-parts}
+use Rattle.solve.specs.Answers.{outsideOf}
+use Rattle.solve.specs.System.{Narrow, pairOf, entryOf, parts, matrixOf, rightOf}
 use Rattle.solve.specs.Taps.{nearestOf, roundedOf, tapOf}
 use Rattle.sums.specs.declared.Sums.{Sums}
 
@@ -37,26 +32,8 @@ exact-theorem (pos n) h = round-whole binary64 false n h
 exact-theorem (negsuc n) h = round-whole binary64 true (suc n) h
 
 -- .. and every sum that is not refused is of that size
-within : (l : List ℤ) (n k : ℕ) → wideAmong l n ≡ false → k < n → natAbs (getD l k (pos 0)) ≤ 2 ^ 53
-unfolding wideAmong
-within l zero k e h = absurd (not-suc-le-zero h)
-within l (suc n) k e h =
-    let b = neither (wideAmong l n) (wide (getD l n (pos 0))) e in
-    ⊎-elim
-    (λ (q : k ≡ n). rw q (ltb-false (2 ^ 53) (natAbs (getD l n (pos 0))) (b .1)))
-    (λ (j : k < n). within l n k (b .0) j)
-    (eq-or-lt-of-le (le-of-suc-le-suc h))
-
-pub record Taken (s : Sums) : Type 0 where
-  pub upper : (k : ℕ) → k < length (s .r) → natAbs (getD (s .r) k (pos 0)) ≤ 2 ^ 53
-  pub right : (k : ℕ) → k < length (s .p) → natAbs (getD (s .p) k (pos 0)) ≤ 2 ^ 53
-
-pub taken-theorem : (s : Sums) → outsideOf s ≡ false → Taken s
-unfolding outsideOf
-taken-theorem s e =
-    let p = neither (eqb (s .count) 0 || ltb 4194304 (s .count) || anyWide (s .r)) (anyWide (s .p)) e in
-    let r = neither (eqb (s .count) 0 || ltb 4194304 (s .count)) (anyWide (s .r)) (p .0) in
-    record { upper = λ k h. within (s .r) (length (s .r)) k (r .1) h; right = λ k h. within (s .p) (length (s .p)) k (p .1) h }
+pub taken-theorem : (s : Sums) → outsideOf s ≡ false → (Narrow (s .r)) × (Narrow (s .p))
+taken-theorem = taken
 
 -- ---- THE MATRIX holds at row r and column c that entry, and the right side at row r its pair
 pair-before : (l m : List Float) (k : ℕ) → 2 * k + 1 < length l → entryAt (l ++ m) k ≡ entryAt l k

@@ -14,6 +14,7 @@ use Rattle.solve.specs.Taps.{tapsOf, noTaps}
 use Rattle.solve.specs.declared.Solved.{Solved}
 use Rattle.sums.specs.declared.Sums.{Sums}
 
+-- "of size over 2^53"
 abbrev pub wide : ℤ → Bool
 wide v = ltb (2 ^ 53) (natAbs v)
 
@@ -32,7 +33,7 @@ unfoldable pub refusedBy : ℕ → Solved
 refusedBy n = record { refusal = n; taps = noTaps }
 
 unfoldable pub answerOf : Solution → Solved
-answerOf x = if x .solvable then record { refusal = 0; taps = tapsOf (x .x) } else refusedBy 10
+answerOf x = if eqb (x .refusal) 0 then record { refusal = 0; taps = tapsOf (x .x) } else refusedBy (x .refusal)
 
 unfoldable pub solveAnswer : Sums → Solved
 solveAnswer s = if outsideOf s then refusedBy 9 else answerOf (solutionOf (sumsSystem s))

@@ -1,8 +1,8 @@
 -- The system that the sums stand for, in f64. Every sum that is taken is of size at most 2^53 and converts without loss (Theorems.antt).
 use mathlib.Core.List.{List, [], _∷_, _++_}
-use Prim.Native.Nat.{ℕ, zero, suc, _+_, _*_, _/_, _%_}
+use Prim.Native.Nat.{ℕ, zero, suc, _+_, _*_, _/_, _%_, _^_, _≤_}
 use lib.Dec.{ltb}
-use lib.IntN.{ℤ, pos}
+use lib.IntN.{ℤ, pos, natAbs}
 use lib.Ieee.{Float, binary64, ofInt}
 use lib.ListN.{getD}
 use Rattle.laws.specs.Choice.{if_then_else_}
@@ -12,7 +12,11 @@ use Rattle.solve_step.specs.declared.complex.Complex.{Complex}
 use Rattle.sums.specs.Sums.{upperAt}
 use Rattle.sums.specs.declared.Sums.{Sums}
 
--- the k-th pair of a list of sums, each part the double nearest to it
+-- no sum is of size over 2^53
+pub record Narrow (l : List ℤ) : Type 0 where
+  pub small : (k : ℕ) → natAbs (getD l k (pos 0)) ≤ 2 ^ 53
+
+-- the k-th pair of a list of sums, each part as a double
 unfoldable pub pairOf : List ℤ → ℕ → Complex
 pairOf l k = record { re = ofInt binary64 (getD l (2 * k) (pos 0)); im = ofInt binary64 (getD l (2 * k + 1) (pos 0)) }
 

@@ -1,8 +1,7 @@
 -- "Taps round halves away from zero and saturate; NaN gives 0." A tap has 14 fraction bits: it is 16,384 times the unknown's part, a product
 -- that is exact unless it overflows, and then saturates.
-use mathlib.Core.Bool.{Bool}
 use mathlib.Core.List.{List}
-use Prim.Native.Nat.{ℕ, _+_, _*_, _/_, min}
+use Prim.Native.Nat.{ℕ, _+_, _-_, _*_, _/_, _^_, min}
 use lib.IntN.{ℤ, pos}
 use lib.Ieee.{Float, nan, inf, fin, binary64, mul, ofBits, up, down}
 use lib.ListN.{getD, replicate}
@@ -13,17 +12,17 @@ use Rattle.laws.specs.Ranges.{firsts}
 abbrev pub nearestOf : ℕ → ℕ → ℕ
 nearestOf a d = (2 * a + d) / (2 * d)
 
--- the size of a double so rounded, at most 32,768; `fin s m e` is m × 2^e, which is m × up e / down e
+-- the size of a double so rounded, at most 2^15; `fin s m e` is m × 2^e, which is m × up e / down e
 unfoldable pub sizeOf : Float → ℕ
 sizeOf nan = 0
-sizeOf (inf s) = 32768
-sizeOf (fin s m e) = min (nearestOf (m * up e) (down e)) 32768
+sizeOf (inf s) = 2 ^ 15
+sizeOf (fin s m e) = min (nearestOf (m * up e) (down e)) (2 ^ 15)
 
--- .. and with its sign, within -32,768 .. 32,767
+-- .. and with its sign, within -2^15 .. 2^15 - 1
 unfoldable pub roundedOf : Float → ℤ
 roundedOf nan = pos 0
-roundedOf (inf s) = if s then minus 32768 else pos 32767
-roundedOf (fin s m e) = if s then minus (min (nearestOf (m * up e) (down e)) 32768) else pos (min (nearestOf (m * up e) (down e)) 32767)
+roundedOf (inf s) = if s then minus (2 ^ 15) else pos (2 ^ 15 - 1)
+roundedOf (fin s m e) = if s then minus (min (nearestOf (m * up e) (down e)) (2 ^ 15)) else pos (min (nearestOf (m * up e) (down e)) (2 ^ 15 - 1))
 
 -- times 16,384
 unfoldable pub tapOf : Float → ℤ

@@ -5,7 +5,7 @@ use sums::Sums;
 ghost use mathlib.Core.Path.{_≡_};
 ghost use Prim.Native.Nat.{_<_, _≤_};
 ghost use Rattle.sums.specs.Sums.{upperAt};
-ghost use Rattle.solve.specs.System.{pairOf, entryOf, matrixOf, rightOf, sumsSystem};
+ghost use Rattle.solve.specs.System.{Narrow, pairOf, entryOf, matrixOf, rightOf, sumsSystem};
 
 // The place of row r and column c, from r on, among the upper entries.
 fn upper(r: usize, c: usize) -> usize
@@ -15,34 +15,34 @@ fn upper(r: usize, c: usize) -> usize
     r * 11 - r * (r + 1) / 2 + c
 }
 
-// A sum of size up to 2^53 is a double: nothing is lost.
+// A sum of size up to 2^53 is a double: `as` loses nothing.
 fn upper_pair(l: &[i64; 132], k: usize) -> Complex
-    requires { ⌜ k < 66 ⌝ }
+    requires { ⌜ (k < 66) × Narrow (now l) ⌝ }
     ensures { λ x. ⌜ x ≡ pairOf (now (l .entry)) k ⌝ }
 {
     let re = l[2 * k];
     let im = l[2 * k + 1];
     Complex {
-        re: std::num::nearest_i64_to_f64(re),
-        im: std::num::nearest_i64_to_f64(im),
+        re: re as f64,
+        im: im as f64,
     }
 }
 
 fn right_pair(l: &[i64; 22], k: usize) -> Complex
-    requires { ⌜ k < 11 ⌝ }
+    requires { ⌜ (k < 11) × Narrow (now l) ⌝ }
     ensures { λ x. ⌜ x ≡ pairOf (now (l .entry)) k ⌝ }
 {
     let re = l[2 * k];
     let im = l[2 * k + 1];
     Complex {
-        re: std::num::nearest_i64_to_f64(re),
-        im: std::num::nearest_i64_to_f64(im),
+        re: re as f64,
+        im: im as f64,
     }
 }
 
 // On the diagonal too it is the conjugate.
 fn sum_entry(l: &[i64; 132], r: usize, c: usize) -> Complex
-    requires { ⌜ (r < 11) × (c < 11) ⌝ }
+    requires { ⌜ (r < 11) × (c < 11) × Narrow (now l) ⌝ }
     ensures { λ x. ⌜ x ≡ entryOf (now (l .entry)) r c ⌝ }
 {
     if r < c {
@@ -53,6 +53,7 @@ fn sum_entry(l: &[i64; 132], r: usize, c: usize) -> Complex
 }
 
 fn matrix(l: &[i64; 132]) -> [f64; 242]
+    requires { ⌜ Narrow (now l) ⌝ }
     ensures { λ x. ⌜ x ≡ matrixOf (now (l .entry)) ⌝ }
 {
     let mut a = [0.0f64; 242];
@@ -66,6 +67,7 @@ fn matrix(l: &[i64; 132]) -> [f64; 242]
 }
 
 fn right_side(l: &[i64; 22]) -> [f64; 22]
+    requires { ⌜ Narrow (now l) ⌝ }
     ensures { λ x. ⌜ x ≡ rightOf (now (l .entry)) ⌝ }
 {
     let mut b = [0.0f64; 22];
@@ -79,6 +81,7 @@ fn right_side(l: &[i64; 22]) -> [f64; 22]
 }
 
 pub(crate) fn system(s: Sums) -> System
+    requires { ⌜ (Narrow (s .r)) × (Narrow (s .p)) ⌝ }
     ensures { λ x. ⌜ x ≡ sumsSystem s ⌝ }
 {
     let a = matrix(&s.r);

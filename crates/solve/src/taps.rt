@@ -66,13 +66,13 @@ pub(crate) fn refused(n: u8) -> Solved
 pub(crate) fn answer(s: Solution) -> Solved
     ensures { λ r. ⌜ r ≡ answerOf s ⌝ }
 {
-    if s.solvable {
+    if s.refusal == 0 {
         let x = s.x;
         Solved {
             refusal: 0,
             taps: taps(x),
         }
     } else {
-        refused(10)
+        refused(s.refusal)
     }
 }

@@ -1,13 +1,12 @@
 -- What the definitions of solve_step mean. Each statement stands above its proof. Assumes nothing.
-use mathlib.Core.Bool.{Bool, true, false}
+use mathlib.Core.Bool.{true, false}
 use mathlib.Core.Path.{_≡_, refl}
 use Prim.Native.Nat.{ℕ, _^_}
-use lib.Ieee.{Float, nan, inf, fin, binary64, ofBits, ofInt, round, lt, le, neg}
+use lib.Ieee.{Float, nan, inf, fin, binary64, ofBits, round, lt, le, neg}
 use lib.IntN.{pos}
 use Rattle.laws.specs.Choice.{if-yes, if-no}
 use Rattle.solve_step.specs.Complex.{conjugateOf}
 use Rattle.solve_step.specs.Pivot.{tiny, betterOf, judgedOf}
-use Rattle.solve_step.specs.declared.complex.Complex.{Complex}
 use Rattle.solve_step.specs.declared.pivot.Best.{Best}
 use Rattle.solve_step.specs.declared.pivot.Pivot.the-variants.{Row}
 

@@ -1,8 +1,7 @@
 -- One turn of each loop: what is left to do from here is what is left after the turn's step. Assumes nothing.
 use mathlib.Core.Path.{_≡_, refl}
-use mathlib.Core.Bool.{true, false}
 use mathlib.Core.List.{List}
-use Prim.Native.Nat.{ℕ, zero, suc, _+_, _-_, _*_, _<_, _≤_}
+use Prim.Native.Nat.{ℕ, zero, suc, _+_, _-_, _<_, _≤_}
 use native.Mathlib.Nat.{not-suc-le-zero}
 use native.Mathlib.Numerals.{add-one}
 use native.Mathlib.Omega.{arith}
@@ -77,11 +76,11 @@ unfolding reduceFrom
 reduce-row s c p z h e = rw (turns 11 c h, add-one, reduceFrom, e)
 
 pub reduce-stop : (s : System) (c : ℕ) (z : Float) → c < 11 → pivotOf (s .a) c ≡ TooSmall z
-    → reduceFrom s c (11 - c) ≡ record { solvable = false; system = s }
+    → reduceFrom s c (11 - c) ≡ record { refusal = 10; system = s }
 unfolding reduceFrom
 reduce-stop s c z h e = rw (turns 11 c h, reduceFrom, e)
 
-pub reduce-ended : (s : System) (c : ℕ) → 11 ≤ c → reduceFrom s c (11 - c) ≡ record { solvable = true; system = s }
+pub reduce-ended : (s : System) (c : ℕ) → 11 ≤ c → reduceFrom s c (11 - c) ≡ record { refusal = 0; system = s }
 unfolding reduceFrom
 reduce-ended s c h = rw (ended 11 c h)
 

@@ -1,7 +1,7 @@
 -- Back substitution, and the solution.
 use mathlib.Core.List.{List}
-use mathlib.Core.Bool.{true, false}
 use Prim.Native.Nat.{ℕ, zero, suc, _+_, _-_}
+use lib.Dec.{eqb}
 use lib.ListN.{replicate}
 use lib.Ieee.{Float, binary64, ofBits}
 use Rattle.laws.specs.Choice.{if_then_else_}
@@ -9,7 +9,6 @@ use Rattle.solve_step.specs.Complex.{differenceOf, productOf, quotientOf
 use Rattle.solve_step.specs.Eliminate.{reduceFrom}
 use Rattle.solve_step.specs.declared.complex.Complex.{Complex}
 use Rattle.solve_step.specs.declared.System.{System}
-use Rattle.solve_step.specs.declared.Reduced.{Reduced}
 use Rattle.solve_step.specs.declared.Solution.{Solution}
 
 -- s less the products of row r with the unknowns, n columns from k on still to be done
@@ -33,4 +32,4 @@ noneYet = replicate 22 (ofBits binary64 0)
 unfoldable pub solutionOf : System → Solution
 solutionOf s =
     let t = reduceFrom s 0 11 in
-    if t .solvable then record { solvable = true; x = backFrom (t .system) noneYet 11 } else record { solvable = false; x = noneYet }
+    if eqb (t .refusal) 0 then record { refusal = 0; x = backFrom (t .system) noneYet 11 } else record { refusal = t .refusal; x = noneYet }

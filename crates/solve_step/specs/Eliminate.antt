@@ -1,10 +1,9 @@
 -- The elimination of `solve`, in its order: each step takes the system and gives the next. A loop is a recursion on the turns that are left.
 use mathlib.Core.List.{List}
-use mathlib.Core.Bool.{true, false}
 use Prim.Native.Nat.{ℕ, zero, suc, _+_, _-_}
 use lib.Ieee.{Float}
 use Rattle.solve_step.specs.Complex.{differenceOf, productOf, quotientOf, entryAt, withEntry, place}
-use Rattle.solve_step.specs.Pivot.{pivotOf}
+use Rattle.solve_step.specs.Pivot.{pivotOf, numberOf}
 use Rattle.solve_step.specs.declared.complex.Complex.{Complex}
 use Rattle.solve_step.specs.declared.System.{System}
 use Rattle.solve_step.specs.declared.Reduced.{Reduced}
@@ -54,9 +53,9 @@ columnStep s c p = rowsFrom (systemOf (swapFrom (s .a) c p 0 11) (entrySwap (s .
 
 -- n columns from c on are still to be done; it stops at a pivot that is too small
 unfoldable pub reduceFrom : System → ℕ → ℕ → Reduced
-reduceFrom s c zero = record { solvable = true; system = s }
+reduceFrom s c zero = record { refusal = 0; system = s }
 reduceFrom s c (suc n) =
     elim (pivotOf (s .a) c) [
       | Row p z ↦ reduceFrom (columnStep s c p) (suc c) n
-      | TooSmall z ↦ record { solvable = false; system = s }
+      | TooSmall z ↦ record { refusal = numberOf (TooSmall z); system = s }
     ]

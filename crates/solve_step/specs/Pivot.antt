@@ -31,6 +31,11 @@ judgedOf b = if lt (b .size) tiny then TooSmall (b .size) else Row (b .row) (b .
 unfoldable pub pivotOf : List Float → ℕ → Pivot
 pivotOf a c = judgedOf (scanFrom a c (c + 1) (record { row = c; size = squaredOf (entryAt a (place c c)) }) (11 - (c + 1)))
 
+-- document 01's number of each answer
+abbrev pub numberOf : Pivot → ℕ
+numberOf (Row p z) = 0
+numberOf (TooSmall z) = 10
+
 -- a pivot's row is one of the eleven
 abbrev pub InRange : Pivot → Type 0
 InRange (Row p z) = p < 11

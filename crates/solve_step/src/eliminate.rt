@@ -21,7 +21,7 @@ pub(crate) fn eliminate(s: System) -> Reduced
             }
             Pivot::TooSmall(_) => {
                 return Reduced {
-                    solvable: false,
+                    refusal: 10,
                     system: System { a: a, b: b },
                 };
             }
@@ -29,7 +29,7 @@ pub(crate) fn eliminate(s: System) -> Reduced
         c += 1;
     }
     Reduced {
-        solvable: true,
+        refusal: 0,
         system: System { a: a, b: b },
     }
 }

@@ -16,15 +16,15 @@ pub struct System {
     pub b: [f64; 22],
 }
 
-// A system after elimination; not solvable where it stopped at a pivot that is too small.
+// A system after elimination. Refusal 10: it stopped at a pivot that is too small.
 pub struct Reduced {
-    pub solvable: bool,
+    pub refusal: u8,
     pub system: System,
 }
 
-// The 11 unknowns; all 0 where the system is not solvable.
+// The 11 unknowns; all 0 after a refusal.
 pub struct Solution {
-    pub solvable: bool,
+    pub refusal: u8,
     pub x: [f64; 22],
 }
 
@@ -32,15 +32,15 @@ pub fn solve(s: System) -> Solution
     ensures { λ r. ⌜ r ≡ solutionOf s ⌝ }
 {
     let t = eliminate::eliminate(s);
-    if t.solvable {
+    if t.refusal == 0 {
         let u = t.system;
         Solution {
-            solvable: true,
+            refusal: 0,
             x: back::back(u),
         }
     } else {
         Solution {
-            solvable: false,
+            refusal: t.refusal,
             x: [0.0f64; 22],
         }
     }

@@ -1,7 +1,7 @@
 -- A block of calls, replaced one after the other. Assumes nothing.
 use mathlib.Core.List.{List, _++_, append-assoc}
-use mathlib.Core.Path.{_≡_, sym, ap, _∙_}
-use Prim.Native.Nat.{ℕ, suc, _+_, _-_, _*_, _≤_, _<_}
+use mathlib.Core.Path.{_≡_, refl, sym, ap, _∙_}
+use Prim.Native.Nat.{ℕ, suc, _+_, _-_, _≤_}
 use native.Mathlib.Omega.{arith}
 use lib.ListN.{length, take, drop, take-append-drop, length-drop, length-take}
 use lib.Seq.{paste, take-paste, drop-paste, take-all, drop-drop, drop-append-le}
@@ -20,40 +20,36 @@ put-part m l a at k n h e =
     ∙ sym (append-assoc (take at l) (take m a) (drop (at + m) l)))
 
 module _ {S : Type 0} (m : ℕ) (answer : S → List ℕ → List ℕ) (after : S → List ℕ → S) (whole : (d : S) (s : List ℕ) → length (answer d s) ≡ m) where
-  -- a turn: one more call of l, at `at`, is replaced by its answer
-  turn : (d : S) (l : List ℕ) (at n : ℕ) → at + m ≤ length l →
+  -- what is replaced up to `at`, then the answers to the n calls that are left; and what all leave
+  abbrev pub soFar : ℕ → S → List ℕ → ℕ → List ℕ
+  soFar n d l at = take at l ++ replayed m answer after d n (drop at l)
+
+  abbrev pub leftFrom : ℕ → S → List ℕ → ℕ → S
+  leftFrom n d l at = left m after d n (drop at l)
+
+  -- a turn: the call at `at` is replaced by its answer
+  turn : (n at : ℕ) (d : S) (l : List ℕ) → at + m ≤ length l →
       let r = paste l at (answer d (drop at l)) m in
       let e = after d (drop at l) in
-      (take (at + m) r ++ replayed m answer after e n (drop (at + m) r) ≡ take at l ++ replayed m answer after d (suc n) (drop at l))
-      × (left m after e n (drop (at + m) r) ≡ left m after d (suc n) (drop at l))
+      (soFar n e r (at + m) ≡ soFar (suc n) d l at) × (leftFrom n e r (at + m) ≡ leftFrom (suc n) d l at)
   unfolding replayed left
-  turn d l at n h =
+  turn n at d l h =
       let a : List ℕ = answer d (drop at l) in
       let k : length a ≡ m = whole d (drop at l) in
       let e : S = after d (drop at l) in
-      let rest = drop-paste l at a m (omega arith) h in
-      (
-        rw (take-paste l at a m (omega arith) h, rest, take-all m a (omega arith), drop-drop m at l) (append-assoc (take at l) a (replayed m answer after e n (drop (at + m) l))),
+      let rest = drop-paste l at a m (omega arith) (omega arith) in (
+        rw (take-paste l at a m (omega arith) (omega arith), rest, take-all m a (omega arith), drop-drop m at l)
+            (append-assoc (take at l) a (replayed m answer after e n (drop (at + m) l))),
         rw (rest, drop-drop m at l),
       )
 
-  -- after i of n calls: what is replaced, then the answers to the rest; and what all leave
-  abbrev pub soFar : ℕ → S → List ℕ → ℕ → List ℕ
-  soFar n d l i = take (m * i) l ++ replayed m answer after d (n - i) (drop (m * i) l)
-
-  abbrev pub leftFrom : ℕ → S → List ℕ → ℕ → S
-  leftFrom n d l i = left m after d (n - i) (drop (m * i) l)
-
-  pub replay-more : (n i : ℕ) (d e : S) (l r : List ℕ) → i < n → m * n ≤ length l → r ≡ paste l (m * i) (answer d (drop (m * i) l)) m → e ≡ after d (drop (m * i) l) →
-      (soFar n e r (i + 1) ≡ soFar n d l i) × (leftFrom n e r (i + 1) ≡ leftFrom n d l i)
-  replay-more n i d e l r h g p q =
-      let a : m * (i + 1) ≡ m * i + m = ? in
-      let b : n - i ≡ suc (n - (i + 1)) = omega arith in
-      rw (a, b, p, q) (turn d l (m * i) (n - (i + 1)) ?)
+  pub replay-more : (n k at past : ℕ) (d e : S) (l r : List ℕ) → k ≡ suc n → past ≡ at + m → past ≤ length l → r ≡ paste l at (answer d (drop at l)) m → e ≡ after d (drop at l) →
+      (soFar n e r past ≡ soFar k d l at) × (leftFrom n e r past ≡ leftFrom k d l at)
+  replay-more n k at past d e l r f g h p q = rw (f, g, p, q) (turn n at d l (omega arith))
 
   pub replay-none : (n : ℕ) (d : S) (l : List ℕ) → (soFar n d l 0 ≡ replayed m answer after d n l) × (leftFrom n d l 0 ≡ left m after d n l)
-  replay-none n d l = ?
+  replay-none n d l = (refl, refl)
 
-  pub replay-all : (n : ℕ) (d : S) (l : List ℕ) → (soFar n d l n ≡ l) × (leftFrom n d l n ≡ d)
+  pub replay-all : (n at : ℕ) (d : S) (l : List ℕ) → n ≡ 0 → (soFar n d l at ≡ l) × (leftFrom n d l at ≡ d)
   unfolding replayed left
-  replay-all n d l = let e : n - n ≡ 0 = omega arith in rw e (take-append-drop (m * n) l, ?)
+  replay-all n at d l e = rw e (take-append-drop at l, refl)

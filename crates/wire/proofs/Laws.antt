@@ -11,8 +11,8 @@ use lib.IntN.{ℤ, pos, negsuc, natAbs, _-ℤ_}
 use lib.ListN.{getD}
 use lib.Signed.{mag, ltZ}
 use mir.Facts.{toZ-pos}
-use mir.Syntax.{Width, hbits}
-use mir.Val.{toZ}
+use mir.Syntax.{Width}
+use mir.Val.{hbits, toZ}
 use Rattle.laws.proofs.Tests.{never}
 use Rattle.laws.specs.Choice.{if-yes, if-no}
 use Rattle.wire.specs.Digest.{mixedOf, digestTo}

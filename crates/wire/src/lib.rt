@@ -76,6 +76,18 @@ pub fn to_bits(z: i64) -> u64
     }
 }
 
+pub fn bits32(v: i32) -> u64
+    ensures { λ r. ⌜ r ≡ bits v ⌝ }
+{
+    to_bits(v as i64)
+}
+
+pub fn bits16(v: i16) -> u64
+    ensures { λ r. ⌜ r ≡ bits v ⌝ }
+{
+    to_bits(v as i64)
+}
+
 // ---- bytes of numbers
 // Not a loop: each byte is then one need that arithmetic closes, and the result is the definition as it stands.
 pub fn bytes(u: u64) -> [u8; 8]
@@ -211,7 +223,7 @@ fn mixed(d: u64, n: u64) -> u64
 fn mixed_entry(d: u64, v: i16) -> u64
     ensures { λ r. ⌜ r ≡ mixedOf d (bits v) ⌝ }
 {
-    mixed(d, to_bits(v as i64))
+    mixed(d, bits16(v))
 }
 
 // The digest of all entries.

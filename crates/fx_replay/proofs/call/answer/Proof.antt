@@ -4,7 +4,7 @@ use Prim.Native.Nat.{_^_}
 use mir.Facts.{toZ-ofZ}
 use mir.Syntax.{w64}
 use mir.Val.{toZ, ofZ}
-use Rattle.fx_replay.specs.Wire.{signed}
+use Rattle.wire.specs.Wire.{signed}
 use Rattle.fx_replay.specs.Replay.{answerOf}
 use Rattle.fx_replay.proofs.Laws.{answer-none}
 use borrow.Author.Needs.{needs}
@@ -24,8 +24,8 @@ of-bits-requires c κs = search needs
 of-bits-requires-2 : tie.Need-of-bits-requires-2
 of-bits-requires-2 c κs = search needs
 
-low-requires : tie.Need-low-requires
-low-requires c κs = search needs
+low32-requires : tie.Need-low32-requires
+low32-requires c κs = search needs
 
 sv-round-shift-requires : tie.Need-sv-round-shift-requires
 sv-round-shift-requires c κs = search needs
@@ -63,20 +63,20 @@ sv-cordic-requires c κs = search needs
 sv-cordic-scale-requires : tie.Need-sv-cordic-scale-requires
 sv-cordic-scale-requires c κs = search needs
 
-low-requires-2 : tie.Need-low-requires-2
-low-requires-2 c κs = search needs
+low32-requires-2 : tie.Need-low32-requires-2
+low32-requires-2 c κs = search needs
 
 sv-signed-angle-requires : tie.Need-sv-signed-angle-requires
 sv-signed-angle-requires c κs = search needs
 
-low-requires-3 : tie.Need-low-requires-3
-low-requires-3 c κs = search needs
+low32-requires-3 : tie.Need-low32-requires-3
+low32-requires-3 c κs = search needs
 
 sv-cos-sin-trunc-requires : tie.Need-sv-cos-sin-trunc-requires
 sv-cos-sin-trunc-requires c κs = search needs
 
-low-requires-4 : tie.Need-low-requires-4
-low-requires-4 c κs = search needs
+low32-requires-4 : tie.Need-low32-requires-4
+low32-requires-4 c κs = search needs
 
 sv-cos-sin-round-requires : tie.Need-sv-cos-sin-round-requires
 sv-cos-sin-round-requires c κs = search needs
@@ -89,7 +89,7 @@ single-requires-6 c κs = search needs
 
 returns : tie.Need-returns
 unfolding answerOf
-returns c = rw (c .before .before .before .match .keys1, c .single .ensures, rw (first (c .before .before .before .before), c .before .before .low .ensures) at (c .before .sv-round-shift .ensures))
+returns c = rw (c .before .before .before .match .keys1, c .single .ensures, rw (first (c .before .before .before .before), c .before .before .low32 .ensures) at (c .before .sv-round-shift .ensures))
 
 returns-2 : tie.Need-returns-2
 unfolding answerOf
@@ -117,15 +117,15 @@ returns-7 c = rw (c .before .match .keys7, rw (first (c .before .before), second
 
 returns-8 : tie.Need-returns-8
 unfolding answerOf
-returns-8 c = rw (c .before .before .match .keys8, toZ-ofZ (record { sfits = c .sv-signed-angle .ok }), rw (c .before .low2 .ensures) at (c .sv-signed-angle .ensures))
+returns-8 c = rw (c .before .before .match .keys8, toZ-ofZ (record { sfits = c .sv-signed-angle .ok }), rw (c .before .low322 .ensures) at (c .sv-signed-angle .ensures))
 
 returns-9 : tie.Need-returns-9
 unfolding answerOf
-returns-9 c = rw (c .before .before .match .keys9, rw (c .before .low3 .ensures) at (c .sv-cos-sin-trunc .ensures))
+returns-9 c = rw (c .before .before .match .keys9, rw (c .before .low323 .ensures) at (c .sv-cos-sin-trunc .ensures))
 
 returns-10 : tie.Need-returns-10
 unfolding answerOf
-returns-10 c = rw (c .before .before .match .keys10, rw (c .before .low4 .ensures) at (c .sv-cos-sin-round .ensures))
+returns-10 c = rw (c .before .before .match .keys10, rw (c .before .low324 .ensures) at (c .sv-cos-sin-round .ensures))
 
 returns-11 : tie.Need-returns-11
 unfolding answerOf
@@ -140,7 +140,7 @@ answer-spec =
     (tie.spec
     of-bits-requires
     of-bits-requires-2
-    low-requires
+    low32-requires
     sv-round-shift-requires
     single-requires
     sv-sat16-requires
@@ -153,11 +153,11 @@ answer-spec =
     single-requires-5
     sv-cordic-requires
     sv-cordic-scale-requires
-    low-requires-2
+    low32-requires-2
     sv-signed-angle-requires
-    low-requires-3
+    low32-requires-3
     sv-cos-sin-trunc-requires
-    low-requires-4
+    low32-requires-4
     sv-cos-sin-round-requires
     sv-div-round-requires
     single-requires-6

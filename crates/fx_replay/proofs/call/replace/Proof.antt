@@ -7,7 +7,8 @@ use borrow.Author.Needs.{needs}
 use lib.ListN.{length, take, drop, length-drop}
 use lib.Seq.{take-all}
 use Rattle.fx_replay.specs.Replay.{answerBytes}
-use Rattle.fx_replay.proofs.Laws.{length-answer, put-part}
+use Rattle.fx_replay.proofs.Laws.{length-answer}
+use Rattle.wire.proofs.Blocks.{put-part}
 use Rattle.fx_replay.proofs.call.replace.Statement.{statement}
 use Rattle.fx_replay.proofs.call.replace.Tie as tie
 
@@ -49,7 +50,7 @@ returns c =
     let k : ℕ = length l - s .args .at in
     let rest : take k (drop (s .args .at) l) ≡ drop (s .args .at) l = take-all k (drop (s .args .at) l) (omega (arith, length-drop (s .args .at) l)) in
     ap (λ (x : List ℕ). take (s .args .at) l ++ (x ++ drop k (drop (s .args .at) l))) (c .before .before .copy .ensures .1)
-    ∙ rw (rw rest at (r .answer-bytes .ensures)) (put-part l (answerBytes (s .args .table .now) (drop (s .args .at) l)) (s .args .at) k (length-answer (s .args .table .now) (drop (s .args .at) l)) (s .pre) refl)
+    ∙ rw (rw rest at (r .answer-bytes .ensures)) (put-part 24 l (answerBytes (s .args .table .now) (drop (s .args .at) l)) (s .args .at) k (length-answer (s .args .table .now) (drop (s .args .at) l)) (s .pre) refl)
 
 pub replace-spec : {M : Type 1} → statement M
 replace-spec =

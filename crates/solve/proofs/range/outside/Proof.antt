@@ -1,3 +1,4 @@
+-- `solve::range::outside` meets its contract. Assumes nothing.
 use borrow.Author.Needs.{needs}
 use Rattle.solve.specs.Answers.{outsideOf}
 use Rattle.solve.proofs.range.outside.Statement.{statement}

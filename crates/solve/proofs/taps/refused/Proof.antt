@@ -1,5 +1,5 @@
+-- `solve::taps::refused` meets its contract. Assumes nothing.
 use mathlib.Core.Path.{refl}
-use borrow.Author.Needs.{needs}
 use Rattle.solve.specs.Answers.{refusedBy}
 use Rattle.solve.specs.Taps.{noTaps}
 use Rattle.solve.proofs.taps.refused.Statement.{statement}

@@ -1,3 +1,4 @@
+-- `solve::taps::round` meets its contract. Assumes nothing.
 use mathlib.Core.Path.{sym, ap, _∙_}
 use Prim.Native.Nat.{ℕ}
 use lib.IntN.{pos, negℤ}

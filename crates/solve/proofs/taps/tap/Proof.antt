@@ -1,3 +1,4 @@
+-- `solve::taps::tap` meets its contract. Assumes nothing.
 use borrow.Author.Needs.{needs}
 use Rattle.solve.specs.Taps.{tapOf}
 use Rattle.solve.proofs.taps.tap.Statement.{statement}

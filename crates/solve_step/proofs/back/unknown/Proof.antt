@@ -1,3 +1,4 @@
+-- `solve_step::back::unknown` meets its contract. Assumes nothing.
 use borrow.Author.Needs.{needs}
 use Rattle.solve_step.specs.Back.{unknownAt}
 use Rattle.solve_step.proofs.back.unknown.Statement.{statement}

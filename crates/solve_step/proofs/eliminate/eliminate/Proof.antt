@@ -1,3 +1,4 @@
+-- `solve_step::eliminate::eliminate` meets its contract. Assumes nothing.
 use mathlib.Core.Path.{_≡_, subst, sym, _∙_}
 use Prim.Native.Nat.{_≤_, _-_}
 use borrow.Author.Needs.{needs}

@@ -1,3 +1,4 @@
+-- `solve_step::ranged::right` meets its contract. Assumes nothing.
 use borrow.Author.Needs.{needs}
 use Rattle.solve_step.specs.Complex.{entryAt}
 use Rattle.solve_step.proofs.ranged.right.Statement.{statement}

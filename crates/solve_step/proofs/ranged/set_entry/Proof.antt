@@ -1,3 +1,4 @@
+-- `solve_step::ranged::set_entry` meets its contract. Assumes nothing.
 use borrow.Author.Needs.{needs}
 use Rattle.solve_step.specs.Complex.{withEntry}
 use Rattle.solve_step.proofs.ranged.set_entry.Statement.{statement}

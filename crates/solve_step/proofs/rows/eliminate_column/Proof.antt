@@ -1,3 +1,4 @@
+-- `solve_step::rows::eliminate_column` meets its contract. Assumes nothing.
 use borrow.Author.Needs.{needs}
 use Rattle.solve_step.specs.Eliminate.{columnStep}
 use Rattle.solve_step.proofs.rows.eliminate_column.Statement.{statement}

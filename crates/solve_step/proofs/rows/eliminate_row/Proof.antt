@@ -1,3 +1,4 @@
+-- `solve_step::rows::eliminate_row` meets its contract. Assumes nothing.
 use borrow.Author.Needs.{needs}
 use Rattle.solve_step.specs.Eliminate.{factorOf, rowStep}
 use Rattle.solve_step.proofs.rows.eliminate_row.Statement.{statement}

@@ -1,3 +1,4 @@
+-- `solve_step::rows::swap_entries` meets its contract. Assumes nothing.
 use borrow.Author.Needs.{needs}
 use Rattle.solve_step.specs.Eliminate.{entrySwap}
 use Rattle.solve_step.proofs.rows.swap_entries.Statement.{statement}

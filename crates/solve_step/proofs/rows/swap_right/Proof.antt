@@ -1,3 +1,4 @@
+-- `solve_step::rows::swap_right` meets its contract. Assumes nothing.
 use borrow.Author.Needs.{needs}
 use Rattle.solve_step.specs.Eliminate.{entrySwap}
 use Rattle.solve_step.proofs.rows.swap_right.Statement.{statement}

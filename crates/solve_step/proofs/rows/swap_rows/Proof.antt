@@ -1,5 +1,6 @@
+-- `solve_step::rows::swap_rows` meets its contract. Assumes nothing.
 use mathlib.Core.Path.{_≡_, sym, _∙_}
-use Prim.Native.Nat.{_≤_, _+_, _-_}
+use Prim.Native.Nat.{_≤_, _-_}
 use borrow.Author.Needs.{needs}
 use Rattle.solve_step.proofs.Turns.{swap-turn, swap-ended}
 use Rattle.solve_step.specs.Eliminate.{swapFrom}

@@ -1,3 +1,4 @@
+-- `solve_step::rows::update_entry` meets its contract. Assumes nothing.
 use borrow.Author.Needs.{needs}
 use Rattle.solve_step.specs.Eliminate.{entryStep}
 use Rattle.solve_step.proofs.rows.update_entry.Statement.{statement}

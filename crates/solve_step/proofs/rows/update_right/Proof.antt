@@ -1,3 +1,4 @@
+-- `solve_step::rows::update_right` meets its contract. Assumes nothing.
 use borrow.Author.Needs.{needs}
 use Rattle.solve_step.specs.Eliminate.{rightStep}
 use Rattle.solve_step.proofs.rows.update_right.Statement.{statement}

@@ -1,3 +1,4 @@
+-- `solve_step::complex::Complex::subtract` meets its contract. Assumes nothing.
 use lib.Ieee.{sub}
 use borrow.Author.Needs.{needs}
 use Rattle.solve_step.proofs.complex.Complex.subtract.Statement.{statement}

@@ -1,0 +1,2 @@
+-- The definitions that the contracts of eq_fir cite, written from document 01, "Phase, equaliser, solver, demapper".
+pub mod Fir

@@ -1,0 +1,3 @@
+// Training sums, after `train` of chain/eq.rs: what one training symbol adds, and the ranges of sums.
+pub mod ranged;
+mod ranges;

@@ -1,0 +1,83 @@
+-- Laws of the definitions of in_force that its proofs cite: what is known where nothing refuses. Assumes nothing.
+use mathlib.Core.Bool.{Bool, true, false, not, _&&_, _||_}
+use mathlib.Core.List.{List}
+use mathlib.Core.Path.{_≡_, refl, sym, ap, _∙_}
+use Prim.Native.Nat.{ℕ, zero, suc, _+_, _-_, _*_, _^_, _≤_, _<_}
+use native.Mathlib.Numerals.{add-one}
+use native.Mathlib.Omega.{arith}
+use borrow.Author.Tests.{eqb-true, eq-eqb}
+use lib.Dec.{eqb}
+use lib.IntN.{ℤ, pos, natAbs}
+use lib.ListN.{length, getD, take, drop}
+use lib.Signed.{leZ}
+use Rattle.laws.proofs.Tests.{and-both, neither}
+use Rattle.laws.specs.Choice.{if_then_else_, if-yes, minus}
+use Rattle.learn.proofs.Laws.{between, no-0, yes-0, not-false, good-bits, learn-ok}
+use Rattle.learn.specs.Learning.{learnedSlice}
+use Rattle.learn.specs.Ranges.{learnInRange, LearnOk}
+use Rattle.learn.specs.Sets.{Bits, badBits, setOf}
+use Rattle.learn.specs.declared.Learn.{Learn}
+use Rattle.in_force.specs.Answers.{nextRefusal, setsRefusal, pointsInForce}
+use Rattle.in_force.specs.InForce.{slicesLearned, forceInRange}
+use Rattle.in_force.specs.declared.InForce.{InForce}
+
+-- ---- the slice set by set
+pub slices-none : (l : Learn) (learned : List ℤ) → learned ≡ slicesLearned l 0 learned
+unfolding slicesLearned
+slices-none l learned = refl
+
+pub slices-step : (l : Learn) (n : ℕ) (learned : List ℤ) → learnedSlice l (n + 1) (slicesLearned l n learned) ≡ slicesLearned l (n + 1) learned
+unfolding slicesLearned
+slices-step l n learned = rw (add-one n)
+
+-- ---- the part that is chosen, of n labels
+pub chosen : (learned nominal : List ℤ) (flags : List Bool) (bits n : ℕ) (xs : List ℤ) → n ≡ 2 ^ bits →
+    setsRefusal (length learned) (length nominal) bits ≡ 0 → (if getD flags (bits - 1) false then learned else nominal) ≡ xs →
+    take (2 * n) (drop (2 * (n - 2)) xs) ≡ pointsInForce learned nominal flags bits
+unfolding pointsInForce setOf
+chosen learned nominal flags bits n xs k z e = rw (k, ← e) (sym (if-yes _ _ _ (eq-eqb (setsRefusal (length learned) (length nominal) bits) 0 z)))
+
+-- ---- no refusal: what is then known
+pub noise-small : (f : InForce) → forceInRange f ≡ true → natAbs (f .n0) ≤ 2 ^ 34
+unfolding forceInRange
+noise-small f e =
+    let a = leZ (minus (2 ^ 33)) (f .n0) && leZ (f .n0) (pos (2 ^ 33 + 2 ^ 31)) in
+    let b = a && leZ (pos 0) (f .k) in
+    let p = and-both b (leZ (f .k) (pos (2 ^ 24))) e in
+    let q = and-both a (leZ (pos 0) (f .k)) (p .0) in
+    let r = and-both (leZ (minus (2 ^ 33)) (f .n0)) (leZ (f .n0) (pos (2 ^ 33 + 2 ^ 31))) (q .0) in
+    between (f .n0) (2 ^ 33 - 1) (2 ^ 33 + 2 ^ 31) (2 ^ 34) (r .0) (r .1) (omega arith) (omega arith)
+
+pub record NextTaken (f : InForce) (l : Learn) (len : ℕ) : Type 0 where
+  pub long : len ≡ 124
+  pub noise : natAbs (f .n0) ≤ 2 ^ 34
+  pub learn : LearnOk l
+
+pub next-taken : (f : InForce) (l : Learn) (len : ℕ) → nextRefusal f l len ≡ 0 → NextTaken f l len
+unfolding nextRefusal
+next-taken f l len e =
+    let p = yes-0 (eqb len 124) _ 3 e in
+    let q = yes-0 (forceInRange f) _ 5 (p .1) in
+    record {
+      long = eqb-true len 124 (p .0);
+      noise = noise-small f (q .0);
+      learn = learn-ok l (yes-0 (learnInRange l) 0 5 (q .1) .0);
+    }
+
+pub record SetsTaken (learned nominal bits : ℕ) : Type 0 where
+  pub learned-long : learned ≡ 124
+  pub nominal-long : nominal ≡ 124
+  pub bits-ok : Bits bits
+
+pub sets-taken : (learned nominal bits : ℕ) → setsRefusal learned nominal bits ≡ 0 → SetsTaken learned nominal bits
+unfolding setsRefusal
+sets-taken learned nominal bits e =
+    let a = not (eqb learned 124) in
+    let b = not (eqb nominal 124) in
+    let p = neither a (b || badBits bits) (no-0 (a || (b || badBits bits)) 3 0 e .0) in
+    let q = neither b (badBits bits) (p .1) in
+    record {
+      learned-long = eqb-true learned 124 (not-false (eqb learned 124) (p .0));
+      nominal-long = eqb-true nominal 124 (not-false (eqb nominal 124) (q .0));
+      bits-ok = good-bits bits (q .1);
+    }

@@ -1,0 +1,87 @@
+// The constellation and the scale that a frame is demapped with, after `InForce` of chain/demap.rs: which sets are learned, the noise figure
+// and its scale. The points stand in two lent slices of 124 i16, learned and nominal, each with the sets of 1 to 5 bits in turn.
+pub mod ranged;
+mod refusals;
+
+use learn::Learn;
+ghost use mathlib.Core.Path.{_≡_};
+ghost use lib.ListN.{length};
+ghost use Rattle.in_force.specs.InForce.{defaultForce};
+ghost use Rattle.in_force.specs.Answers.{nextAnswer, nextSlice, setsRefusal, pointsInForce};
+
+// The frame that was learned on.
+pub enum Source {
+    Never,
+    Frame(u32),
+}
+
+pub struct InForce {
+    pub learned: [bool; 5],
+    pub n0: i64,
+    pub k: i64,
+    pub from: Source,
+}
+
+pub struct Renewed {
+    pub refusal: u8,
+    pub in_force: InForce,
+}
+
+// Before the first frame: nominal points, and the noise of 13 dB.
+pub fn default() -> InForce
+    ensures { λ r. ⌜ r ≡ defaultForce ⌝ }
+{
+    InForce {
+        learned: [false; 5],
+        n0: 52556,
+        k: demap::ranged::scale(52556),
+        from: Source::Never,
+    }
+}
+
+// What a frame's pilots and noise give the next frame; its learned points go into the slice.
+pub fn next(f: InForce, l: Learn, frame: u32, learned: &mut [i16]) -> Renewed
+    ensures { λ r. ⌜ (r ≡ nextAnswer f l frame (now (learned .entry))) × (now (learned .exit) ≡ nextSlice f l (now (learned .entry))) ⌝ }
+{
+    let n = refusals::next(f, l, learned.len());
+    if n == 0 {
+        Renewed {
+            refusal: 0,
+            in_force: ranged::renewed(f, l, frame, learned),
+        }
+    } else {
+        Renewed {
+            refusal: n,
+            in_force: f,
+        }
+    }
+}
+
+// 0, or why there are no points of so many bits in slices of these lengths.
+pub fn sets_refusal(learned: usize, nominal: usize, bits: usize) -> u8
+    ensures { λ r. ⌜ r ≡ setsRefusal learned nominal bits ⌝ }
+{
+    if (learned != 124) | ((nominal != 124) | ((bits < 1) | (5 < bits))) {
+        4
+    } else {
+        0
+    }
+}
+
+// The points of a set: a part of one of the two slices. A set has at least four numbers, so an empty part is a refusal, whose number is
+// `sets_refusal`.
+pub fn points_in_force<'a>(learned: &'a [i16], nominal: &'a [i16], flags: [bool; 5], bits: usize) -> &'a [i16]
+    ensures { λ r. ⌜ now r ≡ pointsInForce (now (learned .entry)) (now (nominal .entry)) flags bits ⌝ }
+{
+    if sets_refusal(learned.len(), nominal.len(), bits) != 0 {
+        return &nominal[0..0];
+    }
+    let n = learn::ranged::labels(bits);
+    let s = 2 * (n - 2);
+    let e = s + 2 * n;
+    if flags[bits - 1] {
+        &learned[s..e]
+    } else {
+        &nominal[s..e]
+    }
+}

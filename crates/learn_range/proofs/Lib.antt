@@ -1,0 +1,3 @@
+-- The theorems, and what they rest on.
+pub mod Kept
+pub mod Parts

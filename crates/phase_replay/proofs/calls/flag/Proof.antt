@@ -1,0 +1,16 @@
+-- `phase_replay::calls::flag` meets its contract. Assumes nothing.
+use Rattle.phase_replay.specs.Calls.{flagOf}
+use Rattle.laws.specs.Choice.{cases}
+use Rattle.phase_replay.proofs.calls.flag.Statement.{statement}
+use Rattle.phase_replay.proofs.calls.flag.Tie as tie
+
+returns : tie.Need-returns
+unfolding flagOf
+returns c = search cases
+
+returns-2 : tie.Need-returns-2
+unfolding flagOf
+returns-2 c = search cases
+
+pub flag-spec : {M : Type 1} → statement M
+flag-spec = tie.close (tie.spec returns returns-2)
