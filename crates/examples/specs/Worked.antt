@@ -1,9 +1,12 @@
 -- Document 01, "Bench values": those with a star, each as what a definition gives beside what the document says.
 use mathlib.Core.List.{List, [], _∷_}
+use Prim.Native.Nat.{_^_}
 use lib.IntN.{ℤ, pos}
 use Rattle.laws.specs.Choice.{minus}
 use Rattle.fx.specs.Fx.{roundShift, divRound, magApprox}
 use Rattle.fx.specs.Cordic.{cordicOf}
+use Rattle.phase.specs.Phase.{gainOf}
+use Rattle.demap.specs.Demap.{labelMetric, leastMetric, softAt}
 
 pub record Example : Type 0 where
   pub given : ℤ
@@ -12,6 +15,10 @@ pub record Example : Type 0 where
 infix 4 _is_
 abbrev pub _is_ : ℤ → ℤ → Example
 given is said = record { given = given; said = said }
+
+-- the BPSK points
+abbrev pub bpsk : List ℤ
+bpsk = pos 724 ∷ pos 724 ∷ minus 724 ∷ minus 724 ∷ []
 
 unfoldable pub worked : List Example
 worked =
@@ -23,4 +30,14 @@ worked =
     ∷ (pos (magApprox (minus 3) (pos 4)) is pos 5)
     ∷ (pos (cordicOf (pos 0) (pos 0) .angle) is pos 3103337958)
     ∷ (cordicOf (pos 0) (pos 0) .size is pos 0)
+    ∷ (gainOf (minus 5) is pos 71179699)
+    ∷ (gainOf (pos 0) is pos 71179699)
+    ∷ (gainOf (pos 64) is pos 71179699)
+    ∷ (gainOf (pos 65) is pos 70084627)
+    ∷ (leastMetric (labelMetric (pos 724) (pos 724) bpsk) 2 is minus 1048352)
+    ∷ (softAt (labelMetric (pos 724) (pos 724) bpsk) 1 (pos 512) 0 is pos 0)
+    ∷ (softAt (labelMetric (pos 724) (pos 724) bpsk) 1 (pos 513) 0 is pos 1)
+    ∷ (softAt (labelMetric (pos 724) (pos 724) bpsk) 1 (pos (2 ^ 24)) 0 is pos 127)
+    ∷ (softAt (labelMetric (minus 724) (minus 724) bpsk) 1 (pos 512) 0 is pos 0)
+    ∷ (softAt (labelMetric (minus 724) (minus 724) bpsk) 1 (pos 513) 0 is minus 1)
     ∷ []
