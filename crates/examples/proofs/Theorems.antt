@@ -7,8 +7,9 @@ use Rattle.fx.specs.Fx.{roundShift, divRound, magApprox, sat127Of}
 use Rattle.fx.specs.Cordic.{cordicAngles, rightHalf, cordicStart, cordicStep, cordicSteps, cordicOf}
 use Rattle.phase.specs.Phase.{gainOf}
 use Rattle.demap.specs.Demap.{squaredDistance, metricOf, labelMetric, leastMetric, gapOf, softOf, softAt}
+use Rattle.frame_map.specs.Map.{fields, runs, noneSeen, alsoSeen, indexed, partIn, partOf}
 use Rattle.examples.specs.Worked.{Example, worked}
 
 pub worked-right : map (λ (e : Example). e .given) worked ≡ map (λ (e : Example). e .said) worked
-unfolding worked roundShift divRound magApprox cordicAngles rightHalf cordicStart cordicStep cordicSteps cordicOf gainOf squaredDistance metricOf labelMetric leastMetric gapOf softOf softAt leastOf minZ sat127Of choice.if_then_else_
+unfolding worked roundShift divRound magApprox cordicAngles rightHalf cordicStart cordicStep cordicSteps cordicOf gainOf squaredDistance metricOf labelMetric leastMetric gapOf softOf softAt leastOf minZ sat127Of fields runs noneSeen alsoSeen indexed partIn partOf choice.if_then_else_
 worked-right = refl

@@ -1,5 +1,6 @@
 -- "Slot map: 24 sync, 32 pilot, then 66 times 136 main and 4 TMCC."
-use Prim.Native.Nat.{ℕ, zero, suc, _+_, _-_}
+use Prim.Native.Nat.{ℕ, zero, suc, _+_, _-_, _≤_, _<_}
+use lib.ListN.{length}
 use mathlib.Core.List.{List, [], _∷_}
 use lib.Dec.{ltb}
 use Rattle.laws.specs.Choice.{if_then_else_}
@@ -69,3 +70,20 @@ partOf j = partIn fields noneSeen j
 -- behind sync and pilots
 unfoldable pub startSeen : Seen
 startSeen = alsoSeen (alsoSeen noneSeen (24 of sync)) (32 of pilot)
+
+-- ---- where the fields stand
+-- the first place of field i, and the places of all
+unfoldable pub startOf : List Field → ℕ → ℕ
+startOf fs zero = 0
+startOf [] (suc i) = 0
+startOf (f ∷ fs) (suc i) = f .size + startOf fs i
+
+unfoldable pub placesOf : List Field → ℕ
+placesOf [] = 0
+placesOf (f ∷ fs) = f .size + placesOf fs
+
+-- place j lies in field i
+pub record LiesIn (fs : List Field) (j i : ℕ) : Type 0 where
+  pub field : i < length fs
+  pub from : startOf fs i ≤ j
+  pub below : j < startOf fs (suc i)
