@@ -5,7 +5,6 @@ mod refusals;
 
 use learn::Learn;
 ghost use mathlib.Core.Path.{_≡_};
-ghost use lib.ListN.{length};
 ghost use Rattle.in_force.specs.InForce.{defaultForce};
 ghost use Rattle.in_force.specs.Answers.{nextAnswer, nextSlice, setsRefusal, pointsInForce};
 
@@ -70,7 +69,12 @@ pub fn sets_refusal(learned: usize, nominal: usize, bits: usize) -> u8
 
 // The points of a set: a part of one of the two slices. A set has at least four numbers, so an empty part is a refusal, whose number is
 // `sets_refusal`.
-pub fn points_in_force<'a>(learned: &'a [i16], nominal: &'a [i16], flags: [bool; 5], bits: usize) -> &'a [i16]
+pub fn points_in_force<'a>(
+    learned: &'a [i16],
+    nominal: &'a [i16],
+    flags: [bool; 5],
+    bits: usize,
+) -> &'a [i16]
     ensures { λ r. ⌜ now r ≡ pointsInForce (now (learned .entry)) (now (nominal .entry)) flags bits ⌝ }
 {
     if sets_refusal(learned.len(), nominal.len(), bits) != 0 {

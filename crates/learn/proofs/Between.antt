@@ -1,5 +1,4 @@
 -- A rounded mean lies where the numbers do: of b numbers from -m to n, so does their mean. Assumes nothing.
-use mathlib.Core.Path.{_≡_, refl}
 use Prim.Native.Nat.{ℕ, zero, suc, _+_, _*_, _/_, _≤_, _<_}
 use native.Mathlib.Nat.{div-lt-iff-lt-mul, suc-mul, not-suc-le-zero}
 use native.Mathlib.Omega.{arith}

@@ -1,21 +1,18 @@
 -- Each call keeps a `Learn` coherent, and a coherent one is in range. Assumes nothing.
-use mathlib.Core.Bool.{Bool, true, false, _&&_, _||_}
-use mathlib.Core.List.{List}
-use mathlib.Core.Path.{_≡_, refl, sym, ap, subst, _∙_}
+use mathlib.Core.Bool.{Bool, true, false}
+use mathlib.Core.Path.{_≡_, refl, _∙_}
 use Prim.Native.Nat.{ℕ, suc, _+_, _-_, _*_, _/_, _^_, _≤_, _<_}
 use native.Mathlib.Nat.{mul-le-mul}
 use native.Mathlib.Omega.{arith}
 use borrow.Author.Tests.{eqb-true, eqb-false, le-leb}
 use lib.Dec.{T, eqb, leb}
 use lib.IntN.{ℤ, pos, negsuc, natAbs, _+ℤ_, _*ℤ_}
-use lib.ListN.{length, getD, set, replicate, length-set, length-replicate, getD-replicate}
+use lib.ListN.{length, set, length-set, length-replicate, getD-replicate}
 use lib.Seq.{getD-set-same, getD-set-other}
-use lib.Signed.{leZ, _≤ℤ_}
-use Rattle.laws.proofs.Linear.{up, dn, sum-ud, neg-ud, ud-le, le-ud, size-ud, size-le}
-use Rattle.laws.proofs.Size.{abs-mul}
+use lib.Signed.{leZ}
+use Rattle.laws.proofs.Linear.{up, dn, sum-ud, neg-ud, ud-le, le-ud, size-ud}
 use Rattle.laws.proofs.Tests.{by-test}
 use Rattle.laws.specs.Choice.{minus}
-use Rattle.demap.specs.Demap.{squaredSize}
 use Rattle.learn.proofs.Laws.{all-of}
 use Rattle.learn.specs.Learning.{sumAt, countAt, newLearn, pilotedAt, sampleOf, sampledBy}
 use Rattle.learn.specs.Ranges.{sumInRange, sumsInRange, countsInRange, learnInRange}
@@ -148,15 +145,15 @@ sampled-coherent l yi yq best c r pi pq h =
     }
 
 -- ---- the ranges
-passes : (t : Bool) → T t → t ≡ true
+pub passes : (t : Bool) → T t → t ≡ true
 passes true h = refl
 passes false h = absurd h
 
 within : (z : ℤ) (m n m2 n2 : ℕ) → From m n z → m ≤ m2 → n ≤ n2 → (leZ (minus m2) z ≡ true) × (leZ z (pos n2) ≡ true)
 within z m n m2 n2 f h k = (
-      passes (leZ (minus m2) z) (le-ud (minus m2) z (omega (arith, ud-le (f .low), neg-ud (pos m), neg-ud (pos m2))) .le),
-      passes (leZ z (pos n2)) (le-ud z (pos n2) (omega (arith, ud-le (f .high))) .le),
-    )
+  passes (leZ (minus m2) z) (le-ud (minus m2) z (omega (arith, ud-le (f .low), neg-ud (pos m), neg-ud (pos m2))) .le),
+  passes (leZ z (pos n2)) (le-ud z (pos n2) (omega (arith, ud-le (f .high))) .le),
+)
 
 sum-within : (l : Learn) → Coherent l → (i : ℕ) → i < 124 → sumInRange (sumAt (l .sum) i) ≡ true
 unfolding sumInRange

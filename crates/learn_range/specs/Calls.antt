@@ -2,9 +2,9 @@
 use mathlib.Core.Path.{_≡_}
 use mathlib.Core.Bool.{true}
 use mathlib.Core.List.{List, [], _∷_}
-use Prim.Native.Nat.{ℕ, _+_, _<_, _^_}
+use Prim.Native.Nat.{ℕ, _<_}
 use lib.IntN.{ℤ}
-use lib.ListN.{length}
+use Rattle.demap.specs.Demap.{scaleOf}
 use Rattle.learn.specs.declared.Learn.{Learn}
 use Rattle.learn.specs.declared.Figure.the-variants.{Refused}
 use Rattle.learn.specs.Answers.{badBest, pilotAnswer, noiseAnswer, pointsAnswer, figureAnswer}
@@ -13,7 +13,7 @@ use Rattle.learn.specs.Ranges.{learnInRange}
 use Rattle.in_force.specs.declared.InForce.{InForce}
 use Rattle.in_force.specs.Answers.{nextAnswer}
 use Rattle.in_force.specs.InForce.{defaultForce, forceInRange}
-use Rattle.learn_range.specs.Coherent.{Coherent, From, Part}
+use Rattle.learn_range.specs.Coherent.{Coherent, Part}
 
 -- ---- a pilot, by bits and index, or a noise sample; `points` and `n0` leave the state as it is
 pub data Call : Type 0 where
@@ -66,9 +66,11 @@ abbrev pub AllCoherent : List Next → Type 0
 AllCoherent [] = Unit {0}
 AllCoherent (n ∷ ns) = Coherent (n .learn) × AllCoherent ns
 
--- what is in force after any frames that learned by calls is in range, and the next such frame is not refused with 6
+-- what is in force after any frames that learned by calls is in range, with the scale of its noise figure, and the next such frame is not
+-- refused with 6
 pub record ForceSound (f : InForce) : Type 0 where
   pub in-range : forceInRange f ≡ true
+  pub scaled : f .k ≡ scaleOf (f .n0)
   pub nexts : (l : Learn) (frame : ℕ) (slice : List ℤ) → Coherent l → nextAnswer f l frame slice .refusal ≡ 6 → ⊥
 
 abbrev pub FramesKeep : Type 0

@@ -1,5 +1,4 @@
 -- `in_force::default` meets its contract. Assumes nothing.
-use mathlib.Core.Path.{_≡_, _∙_}
 use borrow.Author.Needs.{needs}
 use mir.Syntax.{w64}
 use Rattle.laws.proofs.Size.{back}

@@ -1,9 +1,9 @@
 -- `learn::pilot` meets its contract. Assumes nothing.
-use mathlib.Core.Path.{_≡_, sym, _∙_}
+use mathlib.Core.Path.{sym, _∙_}
 use borrow.Author.Needs.{needs}
 use mir.Facts.{toZ-ofZ}
 use Rattle.laws.specs.Choice.{cases}
-use Rattle.learn.specs.Answers.{pilotRefusal, pilotAnswer}
+use Rattle.learn.specs.Answers.{pilotAnswer}
 use Rattle.learn.proofs.Laws.{PilotTaken, pilot-taken}
 use Rattle.learn.proofs.pilot.Statement.{statement}
 use Rattle.learn.proofs.pilot.Tie as tie

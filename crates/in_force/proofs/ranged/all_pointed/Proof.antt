@@ -1,12 +1,12 @@
 -- `in_force::ranged::all_pointed` meets its contract: a turn is one set. Assumes nothing.
 use mathlib.Core.Bool.{false}
 use mathlib.Core.List.{_++_, append-nil}
-use mathlib.Core.Path.{_≡_, refl, sym, ap, _∙_}
+use mathlib.Core.Path.{_≡_, refl, sym, _∙_}
 use Prim.Native.Nat.{ℕ, _+_, _-_, _≤_}
 use native.Mathlib.Omega.{arith}
 use borrow.Author.Needs.{needs}
 use lib.ListN.{length, drop, replicate}
-use Rattle.laws.proofs.Lists.{firsts-step, length-fill}
+use Rattle.laws.proofs.Lists.{firsts-step}
 use Rattle.laws.specs.Ranges.{firsts}
 use Rattle.learn.specs.Learning.{setLearned}
 use Rattle.in_force.specs.InForce.{setFlags, slicesLearned}

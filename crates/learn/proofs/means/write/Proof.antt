@@ -1,17 +1,17 @@
 -- `learn::means::write` meets its contract. Assumes nothing.
 use mathlib.Core.List.{_++_, append-nil}
-use mathlib.Core.Path.{_≡_, refl, ap, _∙_}
-use Prim.Native.Nat.{ℕ, _+_, _-_, _/_, _≤_}
+use mathlib.Core.Path.{_≡_, refl, _∙_}
+use Prim.Native.Nat.{ℕ, _+_, _-_, _≤_}
 use native.Mathlib.Nat.{le-refl}
 use native.Mathlib.Omega.{arith}
 use borrow.Author.Needs.{needs}
-use lib.IntN.{ℤ, pos}
-use lib.ListN.{length, drop, getD, drop-of-length-le}
+use lib.IntN.{ℤ}
+use lib.ListN.{length, drop, drop-of-length-le}
 use mir.Syntax.{w16, w64}
 use Rattle.laws.proofs.Lists.{firsts-step, length-fill}
 use Rattle.laws.proofs.Size.{back}
 use Rattle.laws.specs.Ranges.{firsts}
-use Rattle.learn.specs.Learning.{sumAt, countAt, meanAt, meanOf}
+use Rattle.learn.specs.Learning.{sumAt, meanAt}
 use Rattle.learn.proofs.means.write.Statement.{statement}
 use Rattle.learn.proofs.means.write.Tie as tie
 

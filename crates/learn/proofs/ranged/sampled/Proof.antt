@@ -1,13 +1,13 @@
 -- `learn::ranged::sampled` meets its contract. Assumes nothing.
-use mathlib.Core.Path.{_≡_, _∙_}
-use Prim.Native.Nat.{_+_, _*_, _^_, _<_, _≤_}
+use mathlib.Core.Path.{_≡_}
+use Prim.Native.Nat.{_+_, _^_, _≤_}
 use native.Mathlib.Omega.{arith}
 use borrow.Author.Needs.{needs}
 use lib.IntN.{ℤ, natAbs, _+ℤ_}
 use mir.Facts.{toZ-ofZ}
 use mir.Syntax.{w64}
-use mir.Val.{SFits, toZ, ofZ}
-use Rattle.laws.proofs.Size.{Num, at, fits, num, plus, back}
+use mir.Val.{toZ, ofZ}
+use Rattle.laws.proofs.Size.{Num, at, fits, num, plus}
 use Rattle.learn.specs.Learning.{sampleOf, sampledBy}
 use Rattle.learn.specs.Ranges.{LearnOk}
 use Rattle.learn.specs.declared.Learn.{Learn}
@@ -36,7 +36,7 @@ returns c =
     let S = c .before .before .before .before .before .before in
     let p = c .before .before .before .sample in
     let e : p .result ≡ sampleOf (S .args .yi) (S .args .yq) (S .args .best) =
-        rw (toZ-ofZ (S .fits .yi), toZ-ofZ (S .fits .yq), toZ-ofZ (S .fits .best)) at (p .ensures .0) in
+    rw (toZ-ofZ (S .fits .yi), toZ-ofZ (S .fits .yq), toZ-ofZ (S .fits .best)) at (p .ensures .0) in
     rw (at w64 (more (S .args .l) (p .result) (S .pre .0) (p .ensures .1)) tt .is, e)
 
 pub sampled-spec : {M : Type 1} → statement M

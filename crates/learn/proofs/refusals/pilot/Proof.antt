@@ -1,5 +1,4 @@
 -- `learn::refusals::pilot` meets its contract. Assumes nothing.
-use mathlib.Core.Path.{_≡_, sym, _∙_}
 use borrow.Author.Needs.{needs}
 use Rattle.laws.specs.Choice.{cases}
 use Rattle.learn.specs.Answers.{pilotRefusal}
