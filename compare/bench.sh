@@ -1,11 +1,11 @@
 #!/bin/bash
-# bench.sh: time and instructions of a call of fx, and of a symbol of the slot sync, of a rotation and of a correction: the Rust beside
-# the port, each from one driver.
+# bench.sh: time and instructions of a call of fx, and of a symbol in the slot sync, rotated, corrected and demapped: the Rust beside the
+# port, each from one driver.
 set -eu
 . "$(dirname "$0")/common.sh"
 need_rust
 need_port
-for bench in sync_bench phase_bench; do
+for bench in sync_bench phase_bench demap_bench; do
     [ -f "$port/lib$bench.a" ] || { echo "$0: no lib$bench.a in $port: run 'rt staticlib $bench' first" >&2; exit 1; }
 done
 out=$root/target/compare
@@ -16,8 +16,9 @@ originals "$out/fast"
 with_port "$port"
 program "$out/fast" bench_fx.rs "$out/bench_fx" -C lto=fat "${port_flags[@]}"
 program "$out/fast" bench_sync.rs "$out/bench_sync" -C lto=fat -L "native=$port" -l static=sync_bench
+program "$out/fast" bench_demap.rs "$out/bench_demap" -C lto=fat -L "native=$port" -l static=demap_bench
 program "$out/fast" bench_phase.rs "$out/bench_phase" -C lto=fat -L "native=$port" -l static=phase_bench --extern isdb_frontend
-for bench in bench_fx bench_sync bench_phase; do
+for bench in bench_fx bench_sync bench_phase bench_demap; do
     "$out/$bench" time
     echo
 done
@@ -64,4 +65,13 @@ for entry in rotate correct; do
     rust=$(instructions bench_phase $entry rust)
     ours=$(instructions bench_phase $entry port)
     line $entry $((rust - none)) $((ours - none)) 9296
+done
+
+echo
+printf '%-14s %9s %9s %6s\n' 'instructions' Rust port ratio
+for bits in 1 2 3 4 5; do
+    none=$(instructions bench_demap $bits none)
+    rust=$(instructions bench_demap $bits rust)
+    ours=$(instructions bench_demap $bits port)
+    line "demap $bits" $((rust - none)) $((ours - none)) 2000
 done
