@@ -5,7 +5,8 @@ here=$(cd "$(dirname "$0")" && pwd)
 root=$(cd "$here/.." && pwd)
 sources=${SULTHVEIG_RUST_SRC:-$root/../shared/docs/src}
 port=${PORT_DIR:-$root/target/staticlib}
-replay=${SYNC_REPLAY:-$root/target/bin/sync_replay}
+sync_replay=${SYNC_REPLAY:-$root/target/bin/sync_replay}
+phase_replay=${PHASE_REPLAY:-$root/target/bin/phase_replay}
 phy=crates/isdbs3-phy/src
 core=crates/isdbs3-core/src
 
@@ -32,11 +33,14 @@ need_port() {
     exit 1
 }
 
-# Ends the script where the port's replay program of the slot sync has not been made.
+# Ends the script where a replay program of the port has not been made.
 need_replay() {
-    [ -x "$replay" ] && return
-    echo "$0: no sync_replay in $(dirname "$replay"): run 'rt check sync_replay' first" >&2
-    exit 1
+    local program
+    for program in "$sync_replay" "$phase_replay"; do
+        [ -x "$program" ] && continue
+        echo "$0: no $program: run 'rt check $(basename "$program")' first" >&2
+        exit 1
+    done
 }
 
 # link DIR FILE...: links to the files in DIR, under their own names

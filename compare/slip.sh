@@ -1,6 +1,6 @@
 #!/bin/bash
-# slip.sh: shows that the comparison can fail. Links `compare` to a stand-in for the port's fx, made of the Rust
-# itself, and gives it a stand-in for the replay program, made of the model. Plants one slip after another in them:
+# slip.sh [fx] [sync] [phase]: shows that the comparison can fail. Links `compare` to a stand-in for the port's fx, made of the Rust
+# itself, and gives it stand-ins for the replay programs, made of the models. Plants one slip after another in them:
 # each must be found, of fx in its function; no slip, no difference.
 set -eu
 . "$(dirname "$0")/common.sh"
@@ -17,39 +17,43 @@ ar crs "$out/libc_api.a" "$out/stand_in.o"
 with_port "$out"
 program "$out/libs" main.rs "$out/compare" "${port_flags[@]}"
 
-"$out/compare" fx --quick >"$out/log" || { cat "$out/log"; echo "slip.sh: a difference without a slip"; exit 1; }
-echo "no slip: $(tail -n 1 "$out/log")"
+# a stand-in for a stage's replay program
+for stage in sync phase; do
+    rustc --edition 2021 -C opt-level=3 -L "$out/libs" --extern isdbs3_phy --extern cases \
+        -o "$out/${stage}_stand_in" "$here/slip/${stage}_stand_in.rs"
+done
+export SYNC_REPLAY=$out/sync_stand_in PHASE_REPLAY=$out/phase_stand_in
 
-found=0
-while read -r slip function; do
-    if SLIP=$slip "$out/compare" fx --quick >"$out/log" 2>&1 || ! grep -q "^DIFFERENCE in $function:" "$out/log"; then
-        cat "$out/log"
-        echo "slip.sh: $slip in $function was not found"
-        exit 1
-    fi
-    echo "$slip: $(grep '^DIFFERENCE' "$out/log")"
-    found=$((found + 1))
-done < <(sed -n 's/^ *("\([a-z0-9_]*\)", "\([a-z0-9_]*\)".*/\1 \2/p' "$here/slip/stand_in.rs")
+# slips FILE: the names of the slips in a stand-in, each with its function if it has one
+slips() {
+    sed -n 's/^ *("\([a-z0-9_]*\)", \("\([a-z0-9_]*\)"\)\?.*/\1 \3/p' "$here/slip/$1"
+}
 
-[ "$found" -ge 17 ] || { echo "slip.sh: only $found slips tried"; exit 1; }
-echo "all $found planted slips of fx were found"
+# find_all PART FILE LEAST: compares a part with its stand-in, without a slip and with each of FILE's, at least LEAST
+find_all() {
+    local part=$1 file=$2 least=$3 found=0 slip function
+    "$out/compare" "$part" --quick >"$out/log" || { cat "$out/log"; echo "slip.sh: a difference without a slip"; exit 1; }
+    echo "no slip: $(tail -n 1 "$out/log")"
+    while read -r slip function; do
+        if SLIP=$slip "$out/compare" "$part" --quick >"$out/log" 2>&1 ||
+            ! grep -q "^DIFFERENCE in ${function:+$function:}" "$out/log"; then
+            cat "$out/log"
+            echo "slip.sh: $slip${function:+ in $function} was not found"
+            exit 1
+        fi
+        echo "$slip: $(grep '^DIFFERENCE' "$out/log")"
+        found=$((found + 1))
+    done < <(slips "$file")
+    [ "$found" -ge "$least" ] || { echo "slip.sh: only $found slips of $part tried"; exit 1; }
+    echo "all $found planted slips of $part were found"
+}
 
-rustc --edition 2021 -C opt-level=3 -L "$out/libs" --extern isdbs3_phy --extern cases \
-    -o "$out/sync_stand_in" "$here/slip/sync_stand_in.rs"
-export SYNC_REPLAY=$out/sync_stand_in
-"$out/compare" sync >"$out/log" || { cat "$out/log"; echo "slip.sh: a difference without a slip"; exit 1; }
-echo "no slip: $(tail -n 1 "$out/log")"
-
-found=0
-while read -r slip; do
-    if SLIP=$slip "$out/compare" sync >"$out/log" 2>&1 || ! grep -q '^DIFFERENCE' "$out/log"; then
-        cat "$out/log"
-        echo "slip.sh: $slip was not found"
-        exit 1
-    fi
-    echo "$slip: $(grep '^DIFFERENCE' "$out/log")"
-    found=$((found + 1))
-done < <(sed -n 's/^ *("\([a-z0-9_]*\)", |r|.*/\1/p' "$here/slip/sync_stand_in.rs")
-
-[ "$found" -ge 18 ] || { echo "slip.sh: only $found slips of sync tried"; exit 1; }
-echo "all $found planted slips of sync were found"
+[ $# -gt 0 ] || set -- fx sync phase
+for part; do
+    case $part in
+        fx) find_all fx stand_in.rs 17 ;;
+        sync) find_all sync sync_stand_in.rs 18 ;;
+        phase) find_all phase phase_stand_in.rs 25 ;;
+        *) echo "usage: slip.sh [fx] [sync] [phase]" >&2; exit 2 ;;
+    esac
+done

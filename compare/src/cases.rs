@@ -2,4 +2,5 @@
 
 pub mod fx;
 pub mod inputs;
+pub mod phase;
 pub mod sync;

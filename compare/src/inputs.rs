@@ -6,6 +6,14 @@ use std::f64::consts::TAU;
 
 pub type Pair = (i64, i64);
 
+/// How much of a stage is compared; a sample is for the files that its replay program is run on.
+#[derive(Clone, Copy, PartialEq, Eq)]
+pub enum Size {
+    Sample,
+    Short,
+    Full,
+}
+
 /// splitmix64: the same numbers from the same seed everywhere.
 pub struct Random(pub u64);
 
@@ -22,17 +30,17 @@ impl Random {
     }
 
     /// Small, of either sign: a distance from an edge.
-    fn near(&mut self) -> i64 {
+    pub fn near(&mut self) -> i64 {
         self.below(7) - 3
     }
 
     /// Of any length up to `bits` (at most 62), so that small sizes are as frequent as great ones.
-    fn positive(&mut self, bits: u64) -> i64 {
+    pub fn positive(&mut self, bits: u64) -> i64 {
         let length = self.below(bits + 1);
         (self.next() & ((1 << length) - 1)) as i64
     }
 
-    fn signed(&mut self, bits: u64) -> i64 {
+    pub fn signed(&mut self, bits: u64) -> i64 {
         let size = self.positive(bits);
         if self.below(2) == 0 {
             size
@@ -42,7 +50,7 @@ impl Random {
     }
 
     /// A power of two of either sign, or close to one.
-    fn by_power(&mut self) -> i64 {
+    pub fn by_power(&mut self) -> i64 {
         let power = 1 << self.below(63);
         let near = self.near();
         if self.below(2) == 0 {
@@ -116,6 +124,10 @@ impl Random {
             _ => (near, a),
         }
     }
+}
+
+pub fn pick<T: Copy>(r: &mut Random, from: &[T]) -> T {
+    from[r.below(from.len() as u64) as usize]
 }
 
 /// Every limit of an argument of this kind, and its neighbours.

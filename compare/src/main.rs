@@ -1,12 +1,14 @@
-//! compare [fx] [sync] [--quick | --full] [--seed N]: the port beside the Rust, on the same inputs. Without a part: all.
+//! compare [fx] [sync] [phase] [--quick | --full] [--seed N]: the port beside the Rust, on the same inputs. Without a
+//! part: all.
 
 mod check;
 mod fx_check;
+mod phase_check;
 mod port;
+mod replay;
 mod sync_check;
 
-use cases::sync::streams::Size;
-use std::path::PathBuf;
+use cases::inputs::Size;
 
 const SEED: u64 = 20_261_115;
 const RANDOM: u64 = 10_000_000;
@@ -15,6 +17,7 @@ const QUICK: u64 = 100_000;
 struct Arguments {
     fx: bool,
     sync: bool,
+    phase: bool,
     /// Random calls a function of fx.
     calls: u64,
     size: Size,
@@ -22,25 +25,26 @@ struct Arguments {
 }
 
 fn usage() -> ! {
-    eprintln!("usage: compare [fx] [sync] [--quick | --full] [--seed NUMBER]");
+    eprintln!("usage: compare [fx] [sync] [phase] [--quick | --full] [--seed NUMBER]");
     std::process::exit(2)
 }
 
 fn arguments() -> Arguments {
-    let mut a = Arguments { fx: false, sync: false, calls: RANDOM, size: Size::Short, seed: SEED };
+    let mut a = Arguments { fx: false, sync: false, phase: false, calls: RANDOM, size: Size::Short, seed: SEED };
     let mut words = std::env::args().skip(1);
     while let Some(word) = words.next() {
         match word.as_str() {
             "fx" => a.fx = true,
             "sync" => a.sync = true,
+            "phase" => a.phase = true,
             "--quick" => a.calls = QUICK,
             "--full" => a.size = Size::Full,
             "--seed" => a.seed = words.next().and_then(|n| n.parse().ok()).unwrap_or_else(|| usage()),
             _ => usage(),
         }
     }
-    if !a.fx && !a.sync {
-        (a.fx, a.sync) = (true, true);
+    if !a.fx && !a.sync && !a.phase {
+        (a.fx, a.sync, a.phase) = (true, true, true);
     }
     a
 }
@@ -51,7 +55,9 @@ fn main() {
         fx_check::compare(a.calls, a.seed);
     }
     if a.sync {
-        let program = std::env::var_os("SYNC_REPLAY").unwrap_or_else(|| "target/bin/sync_replay".into());
-        sync_check::compare(&PathBuf::from(program), a.size, a.seed);
+        sync_check::compare(a.size, a.seed);
+    }
+    if a.phase {
+        phase_check::compare(a.size, a.seed);
     }
 }

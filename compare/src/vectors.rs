@@ -1,12 +1,14 @@
-//! vectors fx|sync DIR: writes DIR/stdin, calls for the replay program, and DIR/stdout, the answers it owes:
+//! vectors fx|sync|phase DIR: writes DIR/stdin, calls for the replay program, and DIR/stdout, the answers it owes:
 //! the Rust's, and document 01's refusals. The port has no part in it.
 //!
 //! fx, stdin: the carrier table (1,024 i16), then calls of op, a, b. stdout: answers of refusal, x, y.
 //! Numbers of a call or an answer have 8 bytes; all are least byte first.
-//! sync: calls and told answers as README.md has them. Answers to handed-in states are the model's.
+//! sync, phase: calls and answers as README.md has them. Where the Rust cannot be asked the answers are the model's.
 
 use cases::fx::{Answer, Function, Kind, FUNCTIONS};
-use cases::inputs::{self, Pair, Random};
+use cases::inputs::{self, Pair, Random, Size};
+use cases::phase::kinds::KINDS;
+use cases::phase::player as phase;
 use cases::sync::player::{Owed, Player, Telling};
 use cases::sync::streams;
 
@@ -77,6 +79,19 @@ fn sync_files() -> Files {
     [("stdin", stdin), ("stdout", stdout)]
 }
 
+fn phase_files() -> Files {
+    let (mut stdin, mut stdout) = (Vec::new(), Vec::new());
+    let mut sink = |calls: Vec<u8>, owed: Vec<phase::Owed>| {
+        stdin.extend(calls);
+        stdout.extend(owed.iter().flat_map(|o| o.told).flat_map(u64::to_le_bytes));
+    };
+    let mut player = phase::Player::sparse(SEED, 11, &mut sink);
+    let mut random = Random(SEED);
+    KINDS.iter().for_each(|kind| (kind.play)(&mut player, &mut random, Size::Sample));
+    player.end();
+    [("stdin", stdin), ("stdout", stdout)]
+}
+
 fn fx_files() -> Files {
     let mut random = Random(SEED);
     let table = inputs::cosine_table();
@@ -93,7 +108,7 @@ fn fx_files() -> Files {
 }
 
 fn usage() -> ! {
-    eprintln!("usage: vectors fx|sync DIR");
+    eprintln!("usage: vectors fx|sync|phase DIR");
     std::process::exit(2)
 }
 
@@ -103,6 +118,7 @@ fn main() -> std::io::Result<()> {
     let files = match set.as_str() {
         "fx" => fx_files(),
         "sync" => sync_files(),
+        "phase" => phase_files(),
         _ => usage(),
     };
     for (name, bytes) in files {

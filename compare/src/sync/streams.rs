@@ -3,17 +3,11 @@
 use super::calls::{Call, Event, Word};
 use super::model::{Lock, Reading, Stage, State, SLOT};
 use super::player::Player;
-use crate::inputs::Random;
+use crate::inputs::{pick, Random, Size};
 use isdbs3_phy::chain::sync::word_symbols;
 use std::f64::consts::TAU;
 
 const END: u64 = 1 << 62;
-
-#[derive(Clone, Copy, PartialEq, Eq)]
-pub enum Size {
-    Short,
-    Full,
-}
 
 pub struct Stream {
     pub name: &'static str,
@@ -61,10 +55,6 @@ fn near(r: &mut Random, reach: i64) -> [i16; 2] {
         return [0; 2];
     }
     [within(r, reach), within(r, reach)]
-}
-
-fn pick<T: Copy>(r: &mut Random, from: &[T]) -> T {
-    from[r.below(from.len() as u64) as usize]
 }
 
 /// Slots of a modulated signal: even slots begin with the F word, odd ones with the S word; slot 0 of a frame is
