@@ -2,3 +2,4 @@
 pub mod Train
 pub mod Ranges
 pub mod Sound
+pub mod Steps

@@ -26,6 +26,7 @@ pub fn shift(win: &mut [i16; 48], i: i16, q: i16)
     win[47] = q;
 }
 
+// A sync that starts at a position with this frame record.
 pub fn started(at: u64, last: Record) -> SlotSync
     ensures { λ r. ⌜ r ≡ startedSync at last ⌝ }
 {
@@ -36,6 +37,7 @@ pub fn started(at: u64, last: Record) -> SlotSync
     }
 }
 
+// 0, or why a symbol is not taken: in the order of document 01's table.
 pub fn push_refusal(len: usize, f: &[i8; 48], w: &[i8; 48], r: Run) -> u8
     ensures { λ n. ⌜ n ≡ pushRefusal len (now (f .entry)) (now (w .entry)) r ⌝ }
 {
@@ -54,6 +56,7 @@ pub fn push_refusal(len: usize, f: &[i8; 48], w: &[i8; 48], r: Run) -> u8
     }
 }
 
+// A symbol that is taken: all is known before the accumulator is written.
 pub fn accepted(s: SlotSync, i: i16, q: i16, f: &[i8; 48], w: &[i8; 48], acc: &mut [u32]) -> Pushed
     requires { ⌜ (RunOk (s .run)) × (onesOf (now f) ≡ true) × (onesOf (now w) ≡ true) × (length (now acc) ≡ 9296) ⌝ }
     ensures { λ r. ⌜ (r ≡ acceptedPush s i q (now (f .entry)) (now (w .entry)) (now (acc .entry))) × (now (acc .exit) ≡ acceptedAcc s i q (now (f .entry)) (now (w .entry)) (now (acc .entry))) ⌝ }

@@ -63,8 +63,7 @@ pub(crate) fn past_end(base: u64, t: u64) -> bool
     }
 }
 
-// 0, or why a symbol is not taken: in the order of document 01's table.
-// at < base + t, which may pass 64 bits
+// at < base + t, which may pass 64 bits.
 fn before(at: u64, base: u64, t: u64) -> bool
     ensures { λ r. ⌜ r ≡ ltb at (base + t) ⌝ }
 {
@@ -107,5 +106,3 @@ pub(crate) fn refused(n: u8, s: SlotSync) -> Pushed
         },
     }
 }
-
-// A symbol that is taken: all is known before the accumulator is written.

@@ -68,13 +68,6 @@ pub record LossBy (n : ℕ) (s : ℕ → ℕ) (m : ℕ) : Type 0 where
   pub by : endOf n period ≤ m
   pub eighth : Eighth n s at period
 
--- ---- a reading: symbol m + 1, counted from 1, comes later than the lock at p and completes a window there
-pub record Reads (n : ℕ) (s : ℕ → ℕ) (p m : ℕ) : Type 0 where
-  pub lock : LockBy n s p m
-  pub kept : ¬ LossBy n s m
-  pub whole : 23 ≤ m
-  pub place : (m - 23) % n ≡ p
-
 -- ---- the premise of demand 3, on the first m positions: "the correlation size is at least P at one fixed position and at most Q elsewhere,
 -- P ≥ 4Q + 8"; windows that are not complete are not among them
 pub record Premise (n place P Q : ℕ) (s : ℕ → ℕ) (m : ℕ) : Type 0 where

@@ -28,6 +28,3 @@ bothAt h c = let x = getD h (c + 23) noPush in bothOf (flat (take 24 (drop c h))
 -- "its size is the larger `mag_approx`"; position c has one if its window is complete
 unfoldable pub sizeAt : List Push → ℕ → ℕ
 sizeAt h c = sizeOf (bothAt h c)
-
-abbrev pub Complete : List Push → ℕ → Type 0
-Complete h c = c + 23 < length h
