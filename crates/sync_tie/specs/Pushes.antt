@@ -1,8 +1,8 @@
 -- A list of pushes, and the sizes of its positions.
-use Prim.Native.Nat.{ℕ, _+_, _<_}
+use Prim.Native.Nat.{ℕ, _+_}
 use mathlib.Core.List.{List, [], _∷_}
 use lib.IntN.{ℤ, pos}
-use lib.ListN.{length, getD, take, drop}
+use lib.ListN.{getD, take, drop}
 use Rattle.sync_corr.specs.declared.Both.{Both}
 use Rattle.sync_corr.specs.Correlate.{bothOf, sizeOf}
 
