@@ -1,2 +1,11 @@
 // The equaliser's line of 11 symbols and its filter, after `push` and `output` of chain/eq.rs.
+pub mod by_rows;
 pub mod ranged;
+
+// The sums of a line's products with the four rows.
+struct Dots {
+    rh: i32,
+    rl: i32,
+    ih: i32,
+    il: i32,
+}

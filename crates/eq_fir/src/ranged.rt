@@ -1,11 +1,10 @@
 // For eq and the receiver: line and taps are lent, pairs of I and Q.
 use angles::Symbol;
-use fx::Parts;
 ghost use mathlib.Core.Path.{_≡_};
-ghost use Prim.Native.Nat.{_≤_, _^_};
-ghost use lib.IntN.{natAbs};
+ghost use Prim.Native.Nat.{_+_, _≤_, _^_};
+ghost use lib.IntN.{natAbs, _+ℤ_, _-ℤ_, _*ℤ_};
 ghost use lib.ListN.{length};
-ghost use Rattle.eq_fir.specs.Fir.{lineAfter, termAdded, filtered, outputOf};
+ghost use Rattle.eq_fir.specs.Fir.{lineAfter, filtered, outputOf};
 
 // One more symbol, at the front; the oldest goes.
 pub fn shift(line: &mut [i16; 22], i: i16, q: i16)
@@ -21,32 +20,56 @@ pub fn shift(line: &mut [i16; 22], i: i16, q: i16)
     line[1] = q;
 }
 
-// A tap times a symbol, added. A function, since a parameter has a range, which an element of a lent array has not.
-fn add_term(a: Parts, wr: i16, wi: i16, xr: i16, xi: i16) -> Parts
-    requires { ⌜ (natAbs (a .re) ≤ 2 ^ 40) × (natAbs (a .im) ≤ 2 ^ 40) ⌝ }
-    ensures { λ r. ⌜ r ≡ termAdded a wr wi xr xi ⌝ }
+// The real part of a tap times a symbol, added. A function, since a parameter has a range, which an element of a lent array has not.
+fn add_re(a: i64, wr: i16, wi: i16, xr: i16, xi: i16) -> i64
+    requires { ⌜ natAbs a ≤ 2 ^ 40 ⌝ }
+    ensures { λ r. ⌜ (r ≡ a +ℤ (wr *ℤ xr -ℤ wi *ℤ xi)) × (natAbs r ≤ natAbs a + 2 ^ 31) ⌝ }
 {
-    let tr = wr as i64;
-    let ti = wi as i64;
-    let yr = xr as i64;
-    let yi = xi as i64;
-    let re = a.re;
-    let im = a.im;
-    Parts {
-        re: re + (tr * yr - ti * yi),
-        im: im + (tr * yi + ti * yr),
-    }
+    a + ((wr as i64) * (xr as i64) - (wi as i64) * (xi as i64))
 }
 
-// The sum of all taps times their symbols.
-fn filter(taps: &[i16; 22], line: &[i16; 22]) -> Parts
-    requires { ⌜ (length (now taps) ≡ 22) × (length (now line) ≡ 22) ⌝ }
-    ensures { λ r. ⌜ (r ≡ filtered (now (taps .entry)) (now (line .entry)) 11) × (natAbs (r .re) ≤ 2 ^ 36) × (natAbs (r .im) ≤ 2 ^ 36) ⌝ }
+// The imaginary part likewise.
+fn add_im(a: i64, wr: i16, wi: i16, xr: i16, xi: i16) -> i64
+    requires { ⌜ natAbs a ≤ 2 ^ 40 ⌝ }
+    ensures { λ r. ⌜ (r ≡ a +ℤ (wr *ℤ xi +ℤ wi *ℤ xr)) × (natAbs r ≤ natAbs a + 2 ^ 31) ⌝ }
 {
-    let mut a = Parts { re: 0, im: 0 };
+    a + ((wr as i64) * (xi as i64) + (wi as i64) * (xr as i64))
+}
+
+// The sum of all taps times their symbols. Its parts have a loop each: with one for both, the compiler keeps too many numbers at a time.
+fn sum_re(taps: &[i16; 22], line: &[i16; 22]) -> i64
+    requires { ⌜ (length (now taps) ≡ 22) × (length (now line) ≡ 22) ⌝ }
+    ensures { λ r. ⌜ (r ≡ filtered (now (taps .entry)) (now (line .entry)) 11 .re) × (natAbs r ≤ 2 ^ 36) ⌝ }
+{
+    let mut a: i64 = 0;
     let mut k: usize = 0;
     while k < 11 {
-        a = add_term(a, taps[2 * k], taps[2 * k + 1], line[2 * k], line[2 * k + 1]);
+        a = add_re(
+            a,
+            taps[2 * k],
+            taps[2 * k + 1],
+            line[2 * k],
+            line[2 * k + 1],
+        );
+        k += 1;
+    }
+    a
+}
+
+fn sum_im(taps: &[i16; 22], line: &[i16; 22]) -> i64
+    requires { ⌜ (length (now taps) ≡ 22) × (length (now line) ≡ 22) ⌝ }
+    ensures { λ r. ⌜ (r ≡ filtered (now (taps .entry)) (now (line .entry)) 11 .im) × (natAbs r ≤ 2 ^ 36) ⌝ }
+{
+    let mut a: i64 = 0;
+    let mut k: usize = 0;
+    while k < 11 {
+        a = add_im(
+            a,
+            taps[2 * k],
+            taps[2 * k + 1],
+            line[2 * k],
+            line[2 * k + 1],
+        );
         k += 1;
     }
     a
@@ -57,9 +80,8 @@ pub fn output(taps: &[i16; 22], line: &[i16; 22]) -> Symbol
     requires { ⌜ (length (now taps) ≡ 22) × (length (now line) ≡ 22) ⌝ }
     ensures { λ r. ⌜ r ≡ outputOf (now (taps .entry)) (now (line .entry)) ⌝ }
 {
-    let a = filter(taps, line);
-    let re = a.re;
-    let im = a.im;
+    let re = sum_re(taps, line);
+    let im = sum_im(taps, line);
     Symbol {
         i: fx::ranged::sat16(fx::ranged::round_shift(re, 14)),
         q: fx::ranged::sat16(fx::ranged::round_shift(im, 14)),
