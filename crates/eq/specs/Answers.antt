@@ -1,7 +1,7 @@
 -- What the entries answer. A refusal "returns the number and the state received". 6, a number of the state out of range, is the only one but for
 -- a training: 8, "training count 4,194,304 before any addition the call would make".
 use Prim.Native.Nat.{ℕ}
-use mathlib.Core.Bool.{Bool, true, false, _&&_}
+use mathlib.Core.Bool.{true, false, _&&_}
 use mathlib.Core.List.{List}
 use lib.Dec.{eqb, leb}
 use lib.IntN.{ℤ}
@@ -14,7 +14,7 @@ use Rattle.eq.specs.declared.Pushed.{Pushed}
 use Rattle.eq.specs.declared.Closed.{Closed}
 use Rattle.eq.specs.declared.Answered.{Answered}
 use Rattle.eq.specs.declared.Answered.the-variants.{Given, Refused}
-use Rattle.eq.specs.declared.Output.the-variants.{Nothing}
+use Rattle.eq.specs.declared.Equalised.the-variants.{Nothing}
 use Rattle.eq.specs.Eq.{startedEq, pushedEq, outputAt, withSums, loadedEq, trainsEq, trainedEq}
 use Rattle.eq.specs.Ranges.{eqInRange}
 
@@ -47,7 +47,7 @@ trainAnswer e di dq = let n = trainRefusal e in if eqb n 0 then kept (trainedEq 
 unfoldable pub closeAnswer : Equaliser → Closed
 closeAnswer e =
     if eqInRange e
-    then if e .open
+    then if e .opened
     then record { refusal = 0; eq = withSums e false (emptySums 0); ended = true; sums = e .sums }
     else record { refusal = 0; eq = e; ended = false; sums = emptySums 0 }
     else record { refusal = 6; eq = e; ended = false; sums = emptySums 0 }

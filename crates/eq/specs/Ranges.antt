@@ -1,5 +1,4 @@
 -- The ranges of docs/RANGES.md, "Equaliser". Line and taps may hold anything; sums that are not open are not looked at.
-use Prim.Native.Nat.{_≤_, _<_}
 use mathlib.Core.Bool.{Bool, true, _&&_}
 use mathlib.Core.Path.{_≡_}
 use lib.Dec.{leb}
@@ -9,7 +8,7 @@ use Rattle.eq.specs.declared.Equaliser.{Equaliser}
 use Rattle.eq.specs.Eq.{trainsEq}
 
 unfoldable pub eqInRange : Equaliser → Bool
-eqInRange e = leb (e .filled) 11 && (if e .open then sumsInRange (e .sums) else true)
+eqInRange e = leb (e .filled) 11 && (if e .opened then sumsInRange (e .sums) else true)
 
 -- what a training needs
 pub record TrainOk (e : Equaliser) : Type 0 where

@@ -20,11 +20,11 @@ pub struct Equaliser {
     pub filled: u32,
     pub taps: [i16; 22],
     pub from: TapsFrom,
-    pub open: bool,
+    pub opened: bool,
     pub sums: Sums,
 }
 
-pub enum Output {
+pub enum Equalised {
     Nothing,
     Given(Symbol),
 }
@@ -42,7 +42,7 @@ pub struct Kept {
 pub struct Pushed {
     pub refusal: u8,
     pub eq: Equaliser,
-    pub out: Output,
+    pub out: Equalised,
 }
 
 // `ended`: sums were open, and these are they.
@@ -93,7 +93,7 @@ pub fn push(e: Equaliser, i: i16, q: i16) -> Pushed
         Pushed {
             refusal: 6,
             eq: e,
-            out: Output::Nothing,
+            out: Equalised::Nothing,
         }
     }
 }
@@ -146,9 +146,9 @@ pub fn close(e: Equaliser) -> Closed
 {
     let none = sums::new(0);
     if ranged::in_range(e) {
-        let open = e.open;
+        let opened = e.opened;
         let s = e.sums;
-        if open {
+        if opened {
             Closed {
                 refusal: 0,
                 eq: ranged::with_sums(e, false, none),
