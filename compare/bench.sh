@@ -1,11 +1,11 @@
 #!/bin/bash
-# bench.sh: time and instructions of a call of fx, and of a symbol in the slot sync, rotated, corrected and demapped: the Rust beside the
-# port, each from one driver.
+# bench.sh: time and instructions of a call of fx; of a symbol in the slot sync, rotated, corrected, filtered, demapped; of a training and a
+# solve: the Rust beside the port, each from one driver.
 set -eu
 . "$(dirname "$0")/common.sh"
 need_rust
 need_port
-for bench in sync_bench phase_bench demap_bench; do
+for bench in sync_bench phase_bench demap_bench eq_bench; do
     [ -f "$port/lib$bench.a" ] || { echo "$0: no lib$bench.a in $port: run 'rt staticlib $bench' first" >&2; exit 1; }
 done
 out=$root/target/compare
@@ -17,8 +17,9 @@ with_port "$port"
 program "$out/fast" bench_fx.rs "$out/bench_fx" -C lto=fat "${port_flags[@]}"
 program "$out/fast" bench_sync.rs "$out/bench_sync" -C lto=fat -L "native=$port" -l static=sync_bench
 program "$out/fast" bench_demap.rs "$out/bench_demap" -C lto=fat -L "native=$port" -l static=demap_bench
+program "$out/fast" bench_eq.rs "$out/bench_eq" -C lto=fat -L "native=$port" -l static=eq_bench
 program "$out/fast" bench_phase.rs "$out/bench_phase" -C lto=fat -L "native=$port" -l static=phase_bench --extern isdb_frontend
-for bench in bench_fx bench_sync bench_phase bench_demap; do
+for bench in bench_fx bench_sync bench_phase bench_demap bench_eq; do
     "$out/$bench" time
     echo
 done
@@ -74,4 +75,16 @@ for bits in 1 2 3 4 5; do
     rust=$(instructions bench_demap $bits rust)
     ours=$(instructions bench_demap $bits port)
     line "demap $bits" $((rust - none)) $((ours - none)) 2000
+done
+
+echo
+printf '%-14s %9s %9s %6s\n' 'instructions' Rust port ratio
+# a training of the Rust comes with a push, which is taken away again
+for entry in 'filter none 9296' 'train pushes 1000' 'solve none 50'; do
+    set -- $entry
+    none=$(instructions bench_eq "$1" none)
+    less=$(instructions bench_eq "$1" "$2")
+    rust=$(instructions bench_eq "$1" rust)
+    ours=$(instructions bench_eq "$1" port)
+    line "$1" $((rust - less)) $((ours - none)) "$3"
 done

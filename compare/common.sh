@@ -7,6 +7,7 @@ sources=${SULTHVEIG_RUST_SRC:-$root/../shared/docs/src}
 port=${PORT_DIR:-$root/target/staticlib}
 sync_replay=${SYNC_REPLAY:-$root/target/bin/sync_replay}
 phase_replay=${PHASE_REPLAY:-$root/target/bin/phase_replay}
+demap_replay=${DEMAP_REPLAY:-$root/target/bin/demap_replay}
 phy=crates/isdbs3-phy/src
 core=crates/isdbs3-core/src
 
@@ -36,7 +37,7 @@ need_port() {
 # Ends the script where a replay program of the port has not been made.
 need_replay() {
     local program
-    for program in "$sync_replay" "$phase_replay"; do
+    for program in "$sync_replay" "$phase_replay" "$demap_replay"; do
         [ -x "$program" ] && continue
         echo "$0: no $program: run 'rt check $(basename "$program")' first" >&2
         exit 1
@@ -74,7 +75,7 @@ originals() {
     library 2021 "$out" isdb_frontend "$shims/isdb_frontend.rs" --extern isdbs3_core --extern num_complex "$@"
     library 2024 "$out" isdbs3_phy "$tree/phy/lib.rs" -A warnings \
         --extern isdbs3_core --extern isdb_frontend --extern num_complex "$@"
-    library 2021 "$out" cases "$here/src/cases.rs" --extern isdbs3_phy --extern isdb_frontend
+    library 2021 "$out" cases "$here/src/cases.rs" --extern isdbs3_phy --extern isdbs3_core --extern isdb_frontend
 }
 
 # program LIBS SOURCE NAME FLAG...: one program of ours, using the originals in LIBS

@@ -1,6 +1,6 @@
 #!/bin/bash
-# slip.sh [fx] [sync] [phase]: shows that the comparison can fail. Links `compare` to a stand-in for the port's fx, made of the Rust
-# itself, and gives it stand-ins for the replay programs, made of the models. Plants one slip after another in them:
+# slip.sh [fx] [sync] [phase] [demap]: shows that the comparison can fail. Links `compare` to a stand-in for the port's C functions, made of
+# the Rust itself, and gives it stand-ins for the replay programs, made of the models. Plants one slip after another in them:
 # each must be found, of fx in its function; no slip, no difference.
 set -eu
 . "$(dirname "$0")/common.sh"
@@ -18,11 +18,11 @@ with_port "$out"
 program "$out/libs" main.rs "$out/compare" "${port_flags[@]}"
 
 # a stand-in for a stage's replay program
-for stage in sync phase; do
+for stage in sync phase demap; do
     rustc --edition 2021 -C opt-level=3 -L "$out/libs" --extern isdbs3_phy --extern cases \
         -o "$out/${stage}_stand_in" "$here/slip/${stage}_stand_in.rs"
 done
-export SYNC_REPLAY=$out/sync_stand_in PHASE_REPLAY=$out/phase_stand_in
+export SYNC_REPLAY=$out/sync_stand_in PHASE_REPLAY=$out/phase_stand_in DEMAP_REPLAY=$out/demap_stand_in
 
 # slips FILE: the names of the slips in a stand-in, each with its function if it has one
 slips() {
@@ -48,12 +48,13 @@ find_all() {
     echo "all $found planted slips of $part were found"
 }
 
-[ $# -gt 0 ] || set -- fx sync phase
+[ $# -gt 0 ] || set -- fx sync phase demap
 for part; do
     case $part in
         fx) find_all fx stand_in.rs 17 ;;
         sync) find_all sync sync_stand_in.rs 18 ;;
         phase) find_all phase phase_stand_in.rs 25 ;;
-        *) echo "usage: slip.sh [fx] [sync] [phase]" >&2; exit 2 ;;
+        demap) find_all demap soft.rs 9 && find_all demap demap_stand_in.rs 21 ;;
+        *) echo "usage: slip.sh [fx] [sync] [phase] [demap]" >&2; exit 2 ;;
     esac
 done

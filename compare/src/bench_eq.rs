@@ -19,6 +19,11 @@ struct Line {
 }
 
 #[repr(C)]
+struct Rows {
+    x: [i16; 96],
+}
+
+#[repr(C)]
 #[derive(Clone, Copy)]
 struct CSums {
     frame: u32,
@@ -34,7 +39,8 @@ struct CSolved {
 }
 
 extern "C" {
-    fn sv_bench_filter(taps: Line, ys: *const i16, numbers: usize, out: *mut i16, room: usize) -> u8;
+    fn sv_bench_rows(taps: Line) -> Rows;
+    fn sv_bench_filter(rows: &Rows, ys: *const i16, numbers: usize, out: *mut i16, room: usize) -> u8;
     fn sv_bench_train(ys: *const i16, numbers: usize, di: i16, dq: i16) -> CSums;
     fn sv_bench_solve(sums: CSums) -> CSolved;
 }
@@ -133,7 +139,8 @@ fn port(input: &Input, entry: &str, n: usize) -> Vec<i64> {
             let line = Line { x: std::array::from_fn(|k| taps[k]) };
             let ys = input.symbols[..n].as_flattened();
             let mut out = vec![0; 2 * n];
-            let done = unsafe { sv_bench_filter(line, ys.as_ptr(), ys.len(), out.as_mut_ptr(), out.len()) };
+            let rows = unsafe { sv_bench_rows(line) };
+            let done = unsafe { sv_bench_filter(&rows, ys.as_ptr(), ys.len(), out.as_mut_ptr(), out.len()) };
             assert_eq!(done, 1);
             out[..10].fill(0);
             out.iter().map(|&v| i64::from(v)).collect()

@@ -1,5 +1,6 @@
 //! What is compared, and on which inputs: shared by the programs beside it.
 
+pub mod demap;
 pub mod fx;
 pub mod inputs;
 pub mod phase;

@@ -1,7 +1,8 @@
-//! compare [fx] [sync] [phase] [--quick | --full] [--seed N]: the port beside the Rust, on the same inputs. Without a
+//! compare [fx] [sync] [phase] [demap] [--quick | --full] [--seed N]: the port beside the Rust, on the same inputs. Without a
 //! part: all.
 
 mod check;
+mod demap_check;
 mod fx_check;
 mod phase_check;
 mod port;
@@ -18,6 +19,7 @@ struct Arguments {
     fx: bool,
     sync: bool,
     phase: bool,
+    demap: bool,
     /// Random calls a function of fx.
     calls: u64,
     size: Size,
@@ -25,26 +27,28 @@ struct Arguments {
 }
 
 fn usage() -> ! {
-    eprintln!("usage: compare [fx] [sync] [phase] [--quick | --full] [--seed NUMBER]");
+    eprintln!("usage: compare [fx] [sync] [phase] [demap] [--quick | --full] [--seed NUMBER]");
     std::process::exit(2)
 }
 
 fn arguments() -> Arguments {
-    let mut a = Arguments { fx: false, sync: false, phase: false, calls: RANDOM, size: Size::Short, seed: SEED };
+    let mut a =
+        Arguments { fx: false, sync: false, phase: false, demap: false, calls: RANDOM, size: Size::Short, seed: SEED };
     let mut words = std::env::args().skip(1);
     while let Some(word) = words.next() {
         match word.as_str() {
             "fx" => a.fx = true,
             "sync" => a.sync = true,
             "phase" => a.phase = true,
+            "demap" => a.demap = true,
             "--quick" => a.calls = QUICK,
             "--full" => a.size = Size::Full,
             "--seed" => a.seed = words.next().and_then(|n| n.parse().ok()).unwrap_or_else(|| usage()),
             _ => usage(),
         }
     }
-    if !a.fx && !a.sync && !a.phase {
-        (a.fx, a.sync, a.phase) = (true, true, true);
+    if !(a.fx || a.sync || a.phase || a.demap) {
+        (a.fx, a.sync, a.phase, a.demap) = (true, true, true, true);
     }
     a
 }
@@ -59,5 +63,8 @@ fn main() {
     }
     if a.phase {
         phase_check::compare(a.size, a.seed);
+    }
+    if a.demap {
+        demap_check::compare(a.size, a.seed);
     }
 }

@@ -1,5 +1,6 @@
 //! The port, as the C functions of crate c_api.
 
+use cases::demap::soft::Rotated;
 use cases::fx::Answer;
 
 #[repr(C)]
@@ -27,6 +28,14 @@ impl From<Numbers> for Answer {
     }
 }
 
+#[repr(C)]
+pub struct Rotation {
+    pub phase: u32,
+    pub i: i16,
+    pub q: i16,
+    pub refusal: u8,
+}
+
 extern "C" {
     pub fn sv_round_shift(v: i64, s: u32) -> Number;
     pub fn sv_sat16(v: i64) -> Number;
@@ -39,6 +48,19 @@ extern "C" {
     pub fn sv_cos_sin_trunc(table: *const i16, len: usize, a: u32) -> Numbers;
     pub fn sv_cos_sin_round(table: *const i16, len: usize, a: u32) -> Numbers;
     pub fn sv_div_round(a: i64, b: i64) -> Number;
+    fn sv_rotate(phase: u32, freq: i32, xi: i8, xq: i8, table: *const i16, len: usize) -> Rotation;
+    fn sv_gain_of(amp: i64) -> Number;
+    fn sv_scale_of(n0: i64) -> Number;
+    fn sv_demap(
+        yi: i16,
+        yq: i16,
+        points: *const i16,
+        len: usize,
+        bits: usize,
+        k: i64,
+        out: *mut i8,
+        room: usize,
+    ) -> Number;
 }
 
 /// One function of the port, called as those of `fx::FUNCTIONS` are.
@@ -58,3 +80,21 @@ pub const CALLS: [Call; 11] = [
     |table, a, _| unsafe { sv_cos_sin_round(table.as_ptr(), table.len(), a as u32) }.into(),
     |_, a, b| unsafe { sv_div_round(a, b) }.into(),
 ];
+
+// SAFETY: as above; of the buffer the port writes within its length.
+pub fn demap(y: [i16; 2], points: &[i16], bits: usize, k: i64, out: &mut [i8]) -> Answer {
+    unsafe { sv_demap(y[0], y[1], points.as_ptr(), points.len(), bits, k, out.as_mut_ptr(), out.len()) }.into()
+}
+
+pub fn scale_of(n0: i64) -> Answer {
+    unsafe { sv_scale_of(n0) }.into()
+}
+
+pub fn gain_of(amp: i64) -> Answer {
+    unsafe { sv_gain_of(amp) }.into()
+}
+
+pub fn rotate(phase: u32, freq: i32, x: [i8; 2], table: &[i16]) -> Rotated {
+    let r = unsafe { sv_rotate(phase, freq, x[0], x[1], table.as_ptr(), table.len()) };
+    Rotated { refusal: r.refusal, phase: r.phase, turned: [r.i, r.q] }
+}

@@ -1,10 +1,12 @@
-//! vectors fx|sync|phase DIR: writes DIR/stdin, calls for the replay program, and DIR/stdout, the answers it owes:
+//! vectors fx|sync|phase|demap DIR: writes DIR/stdin, calls for the replay program, and DIR/stdout, the answers it owes:
 //! the Rust's, and document 01's refusals. The port has no part in it.
 //!
 //! fx, stdin: the carrier table (1,024 i16), then calls of op, a, b. stdout: answers of refusal, x, y.
 //! Numbers of a call or an answer have 8 bytes; all are least byte first.
-//! sync, phase: calls and answers as README.md has them. Where the Rust cannot be asked the answers are the model's.
+//! sync, phase, demap: calls and answers as README.md has them. Where the Rust cannot be asked the answers are the model's.
 
+use cases::demap::kinds::KINDS as DEMAP_KINDS;
+use cases::demap::player as demap;
 use cases::fx::{Answer, Function, Kind, FUNCTIONS};
 use cases::inputs::{self, Pair, Random, Size};
 use cases::phase::kinds::KINDS;
@@ -92,6 +94,19 @@ fn phase_files() -> Files {
     [("stdin", stdin), ("stdout", stdout)]
 }
 
+fn demap_files() -> Files {
+    let (mut stdin, mut stdout) = (Vec::new(), Vec::new());
+    let mut sink = |calls: Vec<u8>, owed: Vec<demap::Owed>| {
+        stdin.extend(calls);
+        stdout.extend(owed.iter().flat_map(|o| o.told).flat_map(u64::to_le_bytes));
+    };
+    let mut player = demap::Player::sparse(SEED, &mut sink);
+    let mut random = Random(SEED);
+    DEMAP_KINDS.iter().for_each(|kind| (kind.play)(&mut player, &mut random, Size::Sample));
+    player.end();
+    [("stdin", stdin), ("stdout", stdout)]
+}
+
 fn fx_files() -> Files {
     let mut random = Random(SEED);
     let table = inputs::cosine_table();
@@ -108,7 +123,7 @@ fn fx_files() -> Files {
 }
 
 fn usage() -> ! {
-    eprintln!("usage: vectors fx|sync|phase DIR");
+    eprintln!("usage: vectors fx|sync|phase|demap DIR");
     std::process::exit(2)
 }
 
@@ -119,6 +134,7 @@ fn main() -> std::io::Result<()> {
         "fx" => fx_files(),
         "sync" => sync_files(),
         "phase" => phase_files(),
+        "demap" => demap_files(),
         _ => usage(),
     };
     for (name, bytes) in files {

@@ -1,15 +1,20 @@
 -- One more symbol of a block, one more training. Assumes nothing.
+use mathlib.Core.Bool.{true}
 use mathlib.Core.List.{List, _∷_}
+use Rattle.laws.proofs.Tests.{and-both, by-test}
 use mathlib.Core.Path.{_≡_, refl, sym, ap, subst, _∙_}
 use Prim.Native.Nat.{ℕ, zero, suc, _+_, _*_, _<_}
 use native.Mathlib.Numerals.{add-one}
+use native.Mathlib.Nat.{not-suc-le-zero}
 use native.Mathlib.Omega.{arith}
-use lib.IntN.{ℤ, pos}
+use borrow.Author.Tests.{eqb-true, eqb-false, leb-true}
+use lib.Dec.{eqb}
+use lib.IntN.{ℤ, pos, natAbs}
 use lib.ListN.{length, getD, set, take, length-take, getD-replicate}
 use lib.Seq.{getD-take}
 use Rattle.angles.specs.declared.Symbol.{Symbol}
 use Rattle.eq_fir.specs.Fir.{lineAfter, noLine}
-use Rattle.eq_fir.specs.Rows.{outputBy}
+use Rattle.eq_fir.specs.Rows.{outputBy, Bytes}
 use mir.Syntax.{w16}
 use mir.Val.{SFits}
 use Rattle.eq_train.proofs.Theorems.{in-range-ok, sound-in-range, empty-sound, train-sound}
@@ -18,7 +23,7 @@ use Rattle.eq_train.specs.Sound.{SumsSound}
 use Rattle.eq_train.specs.Train.{nth, trainedSums}
 use Rattle.sums.specs.Sums.{emptySums}
 use Rattle.sums.specs.declared.Sums.{Sums}
-use Rattle.eq_bench.specs.Blocks.{Filtered, filtered, filteredOne, filteredBy, trainedAlong, lineBy, Short}
+use Rattle.eq_bench.specs.Blocks.{Filtered, filtered, filteredOne, filteredBy, inByte, inBytes, trainedAlong, lineBy, Short}
 
 pub filter-more : (rows ys : List ℤ) (k : ℕ) (t₀ t : Filtered) (l : List ℤ) (z : Symbol) → t ≡ filteredBy rows ys k t₀ →
     l ≡ lineAfter (t .line) (getD ys (2 * k) (pos 0)) (getD ys (2 * k + 1) (pos 0)) →
@@ -85,3 +90,15 @@ train-more ys di dq k l m s r hx hy hi hq lt t em er =
 
 pub trainable : (ys : List ℤ) (di dq : ℤ) (k : ℕ) (line : List ℤ) (s : Sums) → k < 4194304 → Trained ys di dq k line s → SumsOk s
 trainable ys di dq k line s l t = in-range-ok s (sound-in-range s (t .sound)) (omega (arith, t .count, l))
+
+-- ---- rows that are bytes
+below-in : (rows : List ℤ) (n : ℕ) → inBytes rows n ≡ true → (j : ℕ) → j < n → inByte (nth rows j) ≡ true
+unfolding inBytes
+below-in rows zero h j l = absurd (not-suc-le-zero l)
+below-in rows (suc n) h j l =
+    let b = and-both (inBytes rows n) (inByte (nth rows n)) h in
+    by-test (eqb j n) (λ e. rw (eqb-true j n e) (b .1)) (λ e. below-in rows n (b .0) j (omega (arith, eqb-false j n e, l)))
+
+pub rows-bytes : (rows : List ℤ) → inBytes rows 96 ≡ true → Bytes rows
+unfolding inByte
+rows-bytes rows h = record { small = λ j l. leb-true (natAbs (nth rows j)) 255 (below-in rows 96 h j l) }

@@ -4,12 +4,13 @@ use mathlib.Core.Path.{_≡_}
 use mir.Syntax.{w16}
 use mir.Val.{SFits}
 use mathlib.Core.List.{List}
-use lib.IntN.{ℤ, pos}
+use mathlib.Core.Bool.{Bool, true, _&&_}
+use lib.IntN.{ℤ, pos, natAbs}
 use lib.ListN.{length, getD, set}
 use lib.Dec.{leb}
 use Rattle.laws.specs.Choice.{if_then_else_}
 use Rattle.eq_fir.specs.Fir.{lineAfter, noLine}
-use Rattle.eq_fir.specs.Rows.{rowsOf, outputBy}
+use Rattle.eq_fir.specs.Rows.{outputBy}
 use Rattle.eq_train.specs.Train.{nth, trainedSums}
 use Rattle.solve.specs.Answers.{solveAnswer}
 use Rattle.sums.specs.Sums.{emptySums}
@@ -37,12 +38,22 @@ unfoldable pub filteredBy : List ℤ → List ℤ → ℕ → Filtered → Filte
 filteredBy rows ys zero t = t
 filteredBy rows ys (suc k) t = filteredOne rows ys k (filteredBy rows ys k t)
 
--- ---- all of it, from a line
-unfoldable pub filteredCode : List ℤ → List ℤ → ℕ
-filteredCode ys out = if leb (length ys) (length out) then 1 else 0
+-- ---- all of it, from an empty line, where the rows are bytes
+unfoldable pub inByte : ℤ → Bool
+inByte v = leb (natAbs v) 255
 
-unfoldable pub filteredOut : List ℤ → List ℤ → List ℤ → List ℤ → List ℤ
-filteredOut line taps ys out = if leb (length ys) (length out) then filteredBy (rowsOf taps) ys (length ys / 2) (filtered line out) .out else out
+unfoldable pub inBytes : List ℤ → ℕ → Bool
+inBytes rows zero = true
+inBytes rows (suc k) = inBytes rows k && inByte (nth rows k)
+
+abbrev pub filters : List ℤ → List ℤ → List ℤ → Bool
+filters rows ys out = inBytes rows 96 && leb (length ys) (length out)
+
+unfoldable pub filteredCode : List ℤ → List ℤ → List ℤ → ℕ
+filteredCode rows ys out = if filters rows ys out then 1 else 0
+
+unfoldable pub filteredOut : List ℤ → List ℤ → List ℤ → List ℤ
+filteredOut rows ys out = if filters rows ys out then filteredBy rows ys (length ys / 2) (filtered noLine out) .out else out
 
 -- ---- a solve
 unfoldable pub solvedOf : CSums → CSolved

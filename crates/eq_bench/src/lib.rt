@@ -4,13 +4,17 @@ use sums::Sums;
 ghost use mathlib.Core.Path.{_≡_};
 ghost use Prim.Native.Nat.{_/_, _≤_};
 ghost use lib.ListN.{length};
-ghost use Rattle.eq_fir.specs.Fir.{noLine};
-ghost use Rattle.eq_fir.specs.Rows.{Bytes};
-ghost use Rattle.eq_bench.specs.Blocks.{filtered, filteredBy, filteredCode, filteredOut, solvedOf, trainedAlong, trainedC};
+ghost use Rattle.eq_fir.specs.Rows.{Bytes, rowsOf};
+ghost use Rattle.eq_bench.specs.Blocks.{filtered, filteredBy, inByte, inBytes, filteredCode, filteredOut, solvedOf, trainedAlong, trainedC};
 
 #[repr(C)]
 pub struct Line {
     pub x: [i16; 22],
+}
+
+#[repr(C)]
+pub struct Rows {
+    pub x: [i16; 96],
 }
 
 #[repr(C)]
@@ -45,16 +49,42 @@ fn filter_all(rows: &[i16; 96], line: &mut [i16; 22], ys: &[i16], out: &mut [i16
     }
 }
 
-// The symbols of ys through an empty line with these taps, into out, which is at least as long: 1, or 0 and nothing done where it is not.
+// The rows of taps.
 #[no_mangle]
-pub extern "C" fn sv_bench_filter(taps: Line, ys: &[i16], out: &mut [i16]) -> u8
-    ensures { λ r. ⌜ (r ≡ filteredCode (now (ys .entry)) (now (out .entry))) × (now (out .exit) ≡ filteredOut noLine (taps .x) (now (ys .entry)) (now (out .entry))) ⌝ }
+pub extern "C" fn sv_bench_rows(taps: Line) -> Rows
+    ensures { λ r. ⌜ r .x ≡ rowsOf (taps .x) ⌝ }
 {
     let t = taps.x;
-    let rows = eq_fir::by_rows::rows(&t);
+    let x = eq_fir::by_rows::rows(&t);
+    Rows { x: x }
+}
+
+fn in_byte(v: i16) -> bool
+    ensures { λ r. ⌜ r ≡ inByte v ⌝ }
+{
+    (-255 <= v) & (v <= 255)
+}
+
+fn all_in_byte(rows: &[i16; 96]) -> bool
+    ensures { λ r. ⌜ r ≡ inBytes (now (rows .entry)) 96 ⌝ }
+{
+    let mut all = true;
+    let mut k: usize = 0;
+    while k < 96 {
+        all = all & in_byte(rows[k]);
+        k += 1;
+    }
+    all
+}
+
+// The symbols of ys through an empty line with the rows of taps, into out: 1; 0 and nothing done where the rows are none, or out is shorter.
+#[no_mangle]
+pub extern "C" fn sv_bench_filter(rows: &[i16; 96], ys: &[i16], out: &mut [i16]) -> u8
+    ensures { λ r. ⌜ (r ≡ filteredCode (now (rows .entry)) (now (ys .entry)) (now (out .entry))) × (now (out .exit) ≡ filteredOut (now (rows .entry)) (now (ys .entry)) (now (out .entry))) ⌝ }
+{
     let mut line = [0i16; 22];
-    if ys.len() <= out.len() {
-        filter_all(&rows, &mut line, ys, out);
+    if all_in_byte(rows) & (ys.len() <= out.len()) {
+        filter_all(rows, &mut line, ys, out);
         1
     } else {
         0
@@ -120,21 +150,5 @@ pub extern "C" fn sv_bench_train(ys: &[i16], di: i16, dq: i16) -> CSums
             r: [0i64; 132],
             p: [0i64; 22],
         }
-    }
-}
-
-// As `sv_bench_filter`, from a line that is given. With this second call the loop stays a function of its own, which is lent the rows.
-#[no_mangle]
-pub extern "C" fn sv_bench_filter_on(line: Line, taps: Line, ys: &[i16], out: &mut [i16]) -> u8
-    ensures { λ r. ⌜ (r ≡ filteredCode (now (ys .entry)) (now (out .entry))) × (now (out .exit) ≡ filteredOut (line .x) (taps .x) (now (ys .entry)) (now (out .entry))) ⌝ }
-{
-    let t = taps.x;
-    let rows = eq_fir::by_rows::rows(&t);
-    let mut l = line.x;
-    if ys.len() <= out.len() {
-        filter_all(&rows, &mut l, ys, out);
-        1
-    } else {
-        0
     }
 }

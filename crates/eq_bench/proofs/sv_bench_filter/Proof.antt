@@ -1,18 +1,27 @@
 -- `eq_bench::sv_bench_filter` meets its contract. Assumes nothing.
-use mathlib.Core.Path.{sym, ap, _∙_}
+use mathlib.Core.Path.{refl, sym, ap, _∙_}
 use borrow.Author.Needs.{needs}
-use borrow.Author.Tests.{lt-leb, le-leb}
+use borrow.Author.Tests.{leb-true}
+use denote.Ref.{now}
+use lib.Dec.{leb}
+use lib.ListN.{length}
 use Rattle.eq_fir.specs.Fir.{noLine}
+use Rattle.laws.proofs.Tests.{and-both}
 use Rattle.laws.specs.Choice.{if-yes, if-no}
+use Rattle.eq_bench.proofs.Laws.{rows-bytes}
 use Rattle.eq_bench.specs.Blocks.{Filtered, filteredCode, filteredOut}
 use Rattle.eq_bench.proofs.sv_bench_filter.Statement.{statement}
 use Rattle.eq_bench.proofs.sv_bench_filter.Tie as tie
 
-rows-requires : tie.Need-rows-requires
-rows-requires c κs = search needs
+all-in-byte-requires : tie.Need-all-in-byte-requires
+all-in-byte-requires c κs = search needs
 
 filter-all-requires : tie.Need-filter-all-requires
-filter-all-requires c κs = search needs
+filter-all-requires c κs =
+    let a = c .before .before .before .before .args in
+    let r = c .before .before .before .all-in-byte in
+    let t = and-both (r .result) (leb (length (now (a .ys))) (length (now (a .out)))) (c .before .before .if1 .taken) in
+    (rows-bytes (now (a .rows)) (sym (r .ensures) ∙ t .0), refl, leb-true _ _ (t .1))
 
 same-length : tie.Need-same-length
 same-length c = search needs
@@ -20,14 +29,14 @@ same-length c = search needs
 returns : tie.Need-returns
 unfolding filteredCode filteredOut noLine
 returns c =
-    let t = le-leb _ _ (c .before .before .before .before .before .if1 .taken) in
-    let e = rw (c .before .before .before .before .before .before .rows .ensures .0) at (c .before .filter-all .ensures) in
-    (sym (if-yes _ _ _ t), ap (λ (x : Filtered). x .out) e ∙ sym (if-yes _ _ _ t))
+    let r = c .before .before .before .before .before .all-in-byte .ensures in
+    let t = rw r at (c .before .before .before .before .if1 .taken) in
+    (sym (if-yes _ _ _ t), ap (λ (x : Filtered). x .out) (c .before .filter-all .ensures) ∙ sym (if-yes _ _ _ t))
 
 returns-2 : tie.Need-returns-2
 unfolding filteredCode filteredOut
-returns-2 c = (sym (if-no _ _ _ (lt-leb _ _ (c .if1 .left))), sym (if-no _ _ _ (lt-leb _ _ (c .if1 .left))))
+returns-2 c = let t = rw (c .before .all-in-byte .ensures) at (c .if1 .left) in (sym (if-no _ _ _ t), sym (if-no _ _ _ t))
 
 pub sv-bench-filter-spec : {M : Type 1} → statement M
 sv-bench-filter-spec =
-    tie.close (tie.spec rows-requires filter-all-requires same-length returns returns-2)
+    tie.close (tie.spec all-in-byte-requires filter-all-requires same-length returns returns-2)

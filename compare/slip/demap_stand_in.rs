@@ -1,0 +1,54 @@
+//! A replay program of learning made of the model, with one slip planted by name (environment variable SLIP): shows that
+//! the comparison finds it. Without SLIP the stand-in is right.
+
+use cases::demap::calls::Call;
+use cases::demap::desk::Desk;
+use cases::demap::model::{Rules, RULES};
+use std::io::{stdin, stdout, BufReader, BufWriter, Read, Write};
+
+/// Each slip: its name (slip.sh reads it), and what it does to the rules.
+const SLIPS: [(&str, fn(&mut Rules)); 21] = [
+    ("label_from_the_wrong_modulus", |r| r.by_label = false),
+    ("mean_toward_zero", |r| r.rounds_down = false),
+    ("missing_label_ignored", |r| r.every_label = false),
+    ("noise_without_the_symbol", |r| r.counts_size = false),
+    ("flag_kept", |r| r.forgets_flags = false),
+    ("figure_back_to_the_first", |r| r.keeps_figure = false),
+    ("scale_of_the_old_figure", |r| r.scales_new = false),
+    ("nominal_if_learned", |r| r.takes_learned = false),
+    ("mean_saturates_to_32767", |r| r.lowest = -32_767),
+    ("pilot_2_26_taken", |r| r.most += 1),
+    ("last_pilot_refused", |r| r.most -= 1),
+    ("sample_2_26_taken", |r| r.most_samples += 1),
+    ("sum_past_its_range_taken", |r| r.sum_spare = 1),
+    ("greatest_sum_refused", |r| r.sum_spare = -1),
+    ("noise_past_its_range_taken", |r| r.noise_spare = 1),
+    ("figure_past_its_range_taken", |r| r.figure_spare = 1),
+    ("best_past_its_range_taken", |r| r.best_spare = 1),
+    ("pilot_32_taken", |r| r.last_pilot = 32),
+    ("range_before_bits", |r| r.bits_first = false),
+    ("count_before_range", |r| r.range_first = false),
+    ("long_slice_taken", |r| r.exact_slice = false),
+];
+
+fn rules() -> Rules {
+    let mut rules = RULES;
+    if let Ok(name) = std::env::var("SLIP") {
+        if let Some((_, alter)) = SLIPS.iter().find(|s| s.0 == name) {
+            alter(&mut rules);
+        }
+    }
+    rules
+}
+
+fn main() -> std::io::Result<()> {
+    let mut desk = Desk::new(rules());
+    let (mut calls, mut answers) = (BufReader::new(stdin()), BufWriter::new(stdout()));
+    let mut bytes = [0; 192];
+    while calls.read_exact(&mut bytes).is_ok() {
+        let number = |k: usize| u64::from_le_bytes(std::array::from_fn(|j| bytes[8 * k + j]));
+        let answer = desk.answer(Call::of_numbers(&std::array::from_fn(number)));
+        answer.iter().try_for_each(|n| answers.write_all(&n.to_le_bytes()))?;
+    }
+    answers.flush()
+}

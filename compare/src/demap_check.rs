@@ -1,0 +1,135 @@
+//! The demapper's C functions beside the Rust's own; then calls of learning and of what is in force to the replay program,
+//! all numbers of all answers, while the Rust goes beside it.
+
+use crate::port;
+use crate::replay::{self, Owes};
+use cases::demap::calls::{Call, Numbers};
+use cases::demap::kinds::{Kind, KINDS};
+use cases::demap::player::{Owed, Player, Totals};
+use cases::demap::soft::{self, Demap, Rotated, Turner};
+use cases::fx::Answer;
+use cases::inputs::{self, Random, Size};
+use std::fmt::Debug;
+
+impl Owes<24> for Owed {
+    fn told(&self) -> &Numbers {
+        &self.told
+    }
+}
+
+#[derive(Default)]
+struct Tally {
+    compared: u64,
+    refused: u64,
+}
+
+impl Tally {
+    fn same<T: PartialEq + Debug>(&mut self, name: &str, call: impl Debug, refusal: u8, expected: T, given: T) {
+        if given != expected {
+            println!("DIFFERENCE in {name}: {call:?}");
+            println!("  expected {expected:?}");
+            println!("  the port {given:?}");
+            std::process::exit(1)
+        }
+        self.compared += 1;
+        self.refused += u64::from(refusal != 0);
+    }
+
+    fn print(&self, name: &str) {
+        println!("{name:22} {:>9} compared, {:>8} of them refused", self.compared, self.refused);
+    }
+}
+
+fn demap(tally: &mut Tally, d: &Demap) {
+    let expected = d.expected();
+    let mut out = d.out.clone();
+    let given = port::demap(d.y, &d.points, d.bits, d.k, &mut out);
+    tally.same("demap", d, expected.0.refusal, expected, (given, out));
+}
+
+fn demaps(size: Size, random: &mut Random) {
+    let mut tally = Tally::default();
+    soft::demaps_at_limits(random).iter().for_each(|d| demap(&mut tally, d));
+    tally.print("demap, limits");
+    for bits in 1..=5 {
+        let mut tally = Tally::default();
+        for _ in 0..if size == Size::Full { 10_000_000 } else { 600_000 } {
+            demap(&mut tally, &soft::any_demap(bits, random));
+        }
+        tally.print(&format!("demap, {bits} bits"));
+    }
+}
+
+fn numbers(name: &str, calls: u64, random: &mut Random, expected: fn(i64) -> Answer, port: fn(i64) -> Answer) {
+    let mut tally = Tally::default();
+    let mut call = |v: i64| {
+        let right = expected(v);
+        tally.same(name, v, right.refusal, right, port(v));
+    };
+    let ends = [i64::MIN, i64::MIN + 1, i64::MAX - 1, i64::MAX];
+    (-1_000..70_000).chain(inputs::by_powers(62)).chain(ends).for_each(&mut call);
+    // where the scale is 0, 1 and 2
+    [1 << 33, (1i64 << 33) / 3, (1i64 << 33) / 5].into_iter().flat_map(|v| v - 100..v + 100).for_each(&mut call);
+    (0..calls).for_each(|_| call(soft::any_noise(random)));
+    tally.print(name);
+}
+
+fn rotations(calls: u64, random: &mut Random) {
+    let mut tally = Tally::default();
+    for table in inputs::right_tables(random) {
+        let mut turner = Turner::new(&table);
+        for _ in 0..calls / 4 {
+            let (phase, freq, x) = (random.next() as u32, random.next() as i32, random.next().to_le_bytes());
+            let x = [x[0] as i8, x[1] as i8];
+            let lent = if random.below(64) == 0 { random.below(1_025) as usize } else { 1_024 };
+            let expected = turner.rotate(phase, freq, x, lent);
+            let given: Rotated = port::rotate(phase, freq, x, &turner.table()[..lent]);
+            tally.same("rotate", (phase, freq, x, lent), expected.refusal, expected, given);
+        }
+    }
+    tally.print("rotate");
+}
+
+type Difference = replay::Difference<Owed, 24>;
+
+fn report(kind: &Kind, seed: u64, d: &Difference) -> ! {
+    println!("DIFFERENCE in {}: seed {seed}, call {}", kind.name, d.owed.place);
+    match Call::of_numbers(&d.owed.call) {
+        Some(call) => println!("  {call:?}"),
+        None => println!("  {:?}", d.owed.call),
+    }
+    println!("  expected {:?}", d.owed.told.map(|n| n as i64));
+    match &d.given {
+        Some(told) => println!("  the port {:?}", told.map(|n| n as i64)),
+        None => println!("  the port ended"),
+    }
+    std::process::exit(1)
+}
+
+fn learning(size: Size, seed: u64) {
+    let program = replay::program("DEMAP_REPLAY", "demap_replay");
+    let mut all = Totals::default();
+    for (k, kind) in (1..).zip(&KINDS) {
+        let seed = seed.wrapping_add(k);
+        let totals = replay::play(&program, |sink| {
+            let mut player = Player::new(seed, sink);
+            (kind.play)(&mut player, &mut Random(seed), size);
+            player.end()
+        });
+        let totals = totals.unwrap_or_else(|d| report(kind, seed, &d));
+        println!("{:22} {totals}", kind.name);
+        all += totals;
+    }
+    println!("{:22} {all}: no difference", "all of learning");
+}
+
+pub fn compare(size: Size, seed: u64) {
+    println!("comparing with the Rust's chain/demap.rs, seed {seed}");
+    let mut random = Random(seed);
+    let calls = if size == Size::Full { 20_000_000 } else { 2_000_000 };
+    demaps(size, &mut random);
+    numbers("scale_of", calls, &mut random, soft::scale_of, port::scale_of);
+    numbers("gain_of", calls, &mut random, soft::gain_of, port::gain_of);
+    rotations(calls, &mut random);
+    learning(size, seed);
+}

@@ -1,0 +1,13 @@
+-- `eq_replay::given::line_put` meets its contract. Assumes nothing.
+use mathlib.Core.Path.{refl}
+use Rattle.eq_replay.specs.Given.{linePut}
+use borrow.Author.Needs.{needs}
+use Rattle.eq_replay.proofs.given.line_put.Statement.{statement}
+use Rattle.eq_replay.proofs.given.line_put.Tie as tie
+
+returns : tie.Need-returns
+unfolding linePut
+returns c = refl
+
+pub line-put-spec : {M : Type 1} → statement M
+line-put-spec = tie.close (tie.spec returns)

@@ -1,0 +1,13 @@
+-- `eq_replay::given::right_put` meets its contract. Assumes nothing.
+use mathlib.Core.Path.{refl}
+use Rattle.eq_replay.specs.Given.{rightPut}
+use borrow.Author.Needs.{needs}
+use Rattle.eq_replay.proofs.given.right_put.Statement.{statement}
+use Rattle.eq_replay.proofs.given.right_put.Tie as tie
+
+returns : tie.Need-returns
+unfolding rightPut
+returns c = refl
+
+pub right-put-spec : {M : Type 1} → statement M
+right-put-spec = tie.close (tie.spec returns)

@@ -1,0 +1,73 @@
+-- What the numbers of a call hold. A field takes as many low bits of its number as it has; a signed field's are two's complement. A flag is off
+-- for 0 and on for any other number. And states with parts replaced.
+use Prim.Native.Nat.{ℕ, _+_, _/_, _%_, _^_}
+use mathlib.Core.Bool.{Bool, not}
+use mathlib.Core.List.{List}
+use lib.Dec.{eqb}
+use lib.IntN.{ℤ, pos}
+use lib.ListN.{getD}
+use Rattle.laws.specs.Choice.{if_then_else_}
+use Rattle.laws.specs.Ranges.{firsts}
+use Rattle.eq.specs.declared.Equaliser.{Equaliser}
+use Rattle.eq.specs.declared.TapsFrom.{TapsFrom}
+use Rattle.eq.specs.declared.TapsFrom.the-variants.{Identity, Frame}
+use Rattle.sums.specs.declared.Sums.{Sums}
+use Rattle.wire.specs.Wire.{signed}
+
+-- number k; as a field of 32 bits, as signed fields of 16 and 64 bits, and as a flag
+abbrev pub at : List ℕ → ℕ → ℕ
+at p k = getD p k 0
+
+abbrev pub at32 : List ℕ → ℕ → ℕ
+at32 p k = at p k % 2 ^ 32
+
+abbrev pub signed16 : List ℕ → ℕ → ℤ
+signed16 p k = signed (2 ^ 15) (at p k % 2 ^ 16)
+
+abbrev pub signed64 : List ℕ → ℕ → ℤ
+signed64 p k = signed (2 ^ 63) (at p k)
+
+abbrev pub on : List ℕ → ℕ → Bool
+on p k = not (eqb (at p k) 0)
+
+-- the 22 numbers from 2 on
+unfoldable pub sixteensOf : List ℕ → List ℤ
+sixteensOf p = firsts (λ k. signed16 p (k + 2)) 22
+
+unfoldable pub widesOf : List ℕ → List ℤ
+widesOf p = firsts (λ k. signed64 p (k + 2)) 22
+
+-- ---- an equaliser with another line, with other taps
+unfoldable pub linePut : Equaliser → List ℤ → Equaliser
+linePut e line = record { line = line; filled = e .filled; taps = e .taps; from = e .from; opened = e .opened; sums = e .sums }
+
+unfoldable pub tapsPut : Equaliser → List ℤ → Equaliser
+tapsPut e taps = record { line = e .line; filled = e .filled; taps = taps; from = e .from; opened = e .opened; sums = e .sums }
+
+-- with other single numbers, 1 to 6: fill, whether the taps have a frame, that frame, whether sums are open, their frame, their count
+unfoldable pub fromOf : List ℕ → TapsFrom
+fromOf p = if eqb (at p 2) 0 then Identity else Frame (at32 p 3)
+
+unfoldable pub numbersPut : Equaliser → List ℕ → Equaliser
+numbersPut e p =
+    record {
+      line = e .line;
+      filled = at32 p 1;
+      taps = e .taps;
+      from = fromOf p;
+      opened = on p 4;
+      sums = record { frame = at32 p 5; count = at32 p 6; r = e .sums .r; p = e .sums .p };
+    }
+
+-- ---- sums with another group of 22 numbers of the upper entries, of which there are six; with other right-hand entries
+unfoldable pub upperEntry : List ℤ → ℕ → List ℤ → ℕ → ℤ
+upperEntry r group v j = if eqb (j / 22) group then getD v (j % 22) (pos 0) else getD r j (pos 0)
+
+unfoldable pub upperOf : List ℤ → ℕ → List ℤ → List ℤ
+upperOf r group v = firsts (upperEntry r group v) 132
+
+unfoldable pub upperPut : Sums → ℕ → List ℤ → Sums
+upperPut s group v = record { frame = s .frame; count = s .count; r = upperOf (s .r) group v; p = s .p }
+
+unfoldable pub rightPut : Sums → List ℤ → Sums
+rightPut s v = record { frame = s .frame; count = s .count; r = s .r; p = v }
