@@ -86,7 +86,10 @@ pub fn pushed(s: SlotPhase, i: i16, q: i16, store: &mut [i16]) -> SlotPhase
                 let k = 2 * (c as usize);
                 store[k] = i;
                 store[k + 1] = q;
-                SlotPhase::Holds(Held { head: h, count: c + 1 })
+                SlotPhase::Holds(Held {
+                    head: h,
+                    count: c + 1,
+                })
             } else {
                 SlotPhase::Holds(Held { head: h, count: c })
             }

@@ -17,7 +17,11 @@ fn held_past(x: Held) -> bool
 {
     let h = x.head;
     let c = x.count;
-    if c < 9296 { past(h.at, c as u64) } else { false }
+    if c < 9296 {
+        past(h.at, c as u64)
+    } else {
+        false
+    }
 }
 
 // at + n is 2^62 or more; it may pass 64 bits.

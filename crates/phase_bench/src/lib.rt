@@ -97,7 +97,13 @@ fn due(theta: u32, amp: i64, next: u32, last: i64) -> Due
 {
     let a = head_of(0, theta, amp);
     let b = head_of(9296, next, last);
-    let h = phase::head(SlotPhase::Holds(Held { head: a, count: 9296 }), b);
+    let h = phase::head(
+        SlotPhase::Holds(Held {
+            head: a,
+            count: 9296,
+        }),
+        b,
+    );
     let d = h.due;
     d
 }
@@ -118,7 +124,11 @@ pub extern "C" fn sv_bench_correct(
     ensures { λ r. ⌜ (r ≡ correctedCode (dueBetween theta amp next last) (fitting (now (table .entry)) (now (store .entry)) (places (now (y .entry)) (now (phi .entry)) (now (gain .entry))))) × (places (now (y .exit)) (now (phi .exit)) (now (gain .exit)) ≡ correctedPlaces (dueBetween theta amp next last) (now (table .entry)) (now (store .entry)) (places (now (y .entry)) (now (phi .entry)) (now (gain .entry)))) ⌝ }
 {
     let d = due(theta, amp, next, last);
-    let fit = (table.len() == 1024) & (store.len() == 18592) & (y.len() == 18592) & (phi.len() == 9296) & (gain.len() == 9296);
+    let fit = (table.len() == 1024)
+        & (store.len() == 18592)
+        & (y.len() == 18592)
+        & (phi.len() == 9296)
+        & (gain.len() == 9296);
     match d {
         Due::Nothing => 6,
         Due::Slot(w) => {

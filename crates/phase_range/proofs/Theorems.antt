@@ -157,11 +157,12 @@ ignored-step h c x store l =
 written : (store : List ℤ) (c : ℕ) (x : Symbol) → 2 * c + 1 < length store → let s = set (set store (2 * c) (x .i)) (2 * c + 1) (x .q) in
     (getD s (2 * c) (pos 0) ≡ x .i) × (getD s (2 * c + 1) (pos 0) ≡ x .q) × ((k : ℕ) → k < 2 * c → getD s k (pos 0) ≡ getD store k (pos 0)) × (length s ≡ length store)
 written store c x l =
-    let s = set store (2 * c) (x .i) in
-    (getD-set-other s (2 * c + 1) (2 * c) (x .q) (pos 0) (omega arith) ∙ getD-set-same store (2 * c) (x .i) (pos 0) (omega (arith, l)),
-    getD-set-same s (2 * c + 1) (x .q) (pos 0) (omega (arith, l, length-set store (2 * c) (x .i))),
-    λ k h. getD-set-other s (2 * c + 1) k (x .q) (pos 0) (omega (arith, h)) ∙ getD-set-other store (2 * c) k (x .i) (pos 0) (omega (arith, h)),
-    length-set s (2 * c + 1) (x .q) ∙ length-set store (2 * c) (x .i))
+    let s = set store (2 * c) (x .i) in (
+      getD-set-other s (2 * c + 1) (2 * c) (x .q) (pos 0) (omega arith) ∙ getD-set-same store (2 * c) (x .i) (pos 0) (omega (arith, l)),
+      getD-set-same s (2 * c + 1) (x .q) (pos 0) (omega (arith, l, length-set store (2 * c) (x .i))),
+      λ k h. getD-set-other s (2 * c + 1) k (x .q) (pos 0) (omega (arith, h)) ∙ getD-set-other store (2 * c) k (x .i) (pos 0) (omega (arith, h)),
+      length-set s (2 * c + 1) (x .q) ∙ length-set store (2 * c) (x .i),
+    )
 
 placed-at : (r : List ℤ) (c : ℕ) (x : Symbol) (xs : List Symbol) → getD r (2 * c) (pos 0) ≡ x .i → getD r (2 * c + 1) (pos 0) ≡ x .q →
     ((k : ℕ) → k < length xs → c + 1 + k < 9296 → symbolAt r (c + 1 + k) ≡ nth xs k) →

@@ -55,9 +55,10 @@ shift-requires c κs = c .before .before .before .before .loop .inv .1 .short .l
 
 train-requires : tie.Need-train-requires Inv-loop μ-loop
 train-requires c κs =
-    let h = c .before .before .before .before .before .before .loop in
-    (trainable _ _ _ (h .k) (h .line) (h .s) (omega (arith, c .before .before .before .before .before .before .before .before .pre, c .before .before .before .before .before .loop-test .taken)) (h .inv .1),
-    ap (λ (l : List ℤ). length l) (c .before .shift .ensures) ∙ line-long (h .line) _ _ (h .inv .1 .short .long))
+    let h = c .before .before .before .before .before .before .loop in (
+      trainable _ _ _ (h .k) (h .line) (h .s) (omega (arith, c .before .before .before .before .before .before .before .before .pre, c .before .before .before .before .before .loop-test .taken)) (h .inv .1),
+      ap (λ (l : List ℤ). length l) (c .before .shift .ensures) ∙ line-long (h .line) _ _ (h .inv .1 .short .long),
+    )
 
 add-k : tie.Need-add-k Inv-loop μ-loop
 add-k c = search needs
@@ -76,9 +77,10 @@ loop-again c =
     let x = back w16 (getD ys (2 * h .k) (pos 0)) gi in
     let y = back w16 (getD ys (2 * h .k + 1) (pos 0)) gq in
     let hi = toZ-ofZ (a .fits .di) in
-    let hq = toZ-ofZ (a .fits .dq) in
-    (omega (arith, l),
-    train-more ys _ _ (h .k) (h .line) _ (h .s) (c .train .result) (record { sfits = gi }) (record { sfits = gq }) (rw hi (a .fits .di)) (rw hq (a .fits .dq)) (omega (arith, a .pre, l)) (h .inv .1) (rw (x, y) at (c .before .before .shift .ensures)) (c .train .ensures))
+    let hq = toZ-ofZ (a .fits .dq) in (
+      omega (arith, l),
+      train-more ys _ _ (h .k) (h .line) _ (h .s) (c .train .result) (record { sfits = gi }) (record { sfits = gq }) (rw hi (a .fits .di)) (rw hq (a .fits .dq)) (omega (arith, a .pre, l)) (h .inv .1) (rw (x, y) at (c .before .before .shift .ensures)) (c .train .ensures),
+    )
 
 returns : tie.Need-returns Inv-loop μ-loop
 returns c =

@@ -49,7 +49,7 @@ unfolding wholeOf
 returns c =
     let d = c .before .per-symbol in
     let t = c .before .before .turn-from in
-    let g = gain-a (c .before .before .before .before .before ) in
+    let g = gain-a (c .before .before .before .before .before) in
     let n = at w64 (less (gain-b (c .before .before .before)) g) tt in
     rw (
       toZ-ofZ (record { sfits = d .ok }),
