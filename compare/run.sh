@@ -5,4 +5,5 @@ set -eu
 need_rust
 need_replay
 "$here/build.sh"
-SYNC_REPLAY=$sync_replay PHASE_REPLAY=$phase_replay DEMAP_REPLAY=$demap_replay exec "$root/target/compare/compare" "$@"
+export SYNC_REPLAY=$sync_replay PHASE_REPLAY=$phase_replay DEMAP_REPLAY=$demap_replay EQ_REPLAY=$eq_replay
+exec "$root/target/compare/compare" "$@"

@@ -1,5 +1,5 @@
 #!/bin/bash
-# slip.sh [fx] [sync] [phase] [demap]: shows that the comparison can fail. Links `compare` to a stand-in for the port's C functions, made of
+# slip.sh [fx] [sync] [phase] [demap] [eq]: shows that the comparison can fail. Links `compare` to a stand-in for the port's C functions, made of
 # the Rust itself, and gives it stand-ins for the replay programs, made of the models. Plants one slip after another in them:
 # each must be found, of fx in its function; no slip, no difference.
 set -eu
@@ -18,11 +18,11 @@ with_port "$out"
 program "$out/libs" main.rs "$out/compare" "${port_flags[@]}"
 
 # a stand-in for a stage's replay program
-for stage in sync phase demap; do
+for stage in sync phase demap eq; do
     rustc --edition 2021 -C opt-level=3 -L "$out/libs" --extern isdbs3_phy --extern cases \
         -o "$out/${stage}_stand_in" "$here/slip/${stage}_stand_in.rs"
 done
-export SYNC_REPLAY=$out/sync_stand_in PHASE_REPLAY=$out/phase_stand_in DEMAP_REPLAY=$out/demap_stand_in
+export SYNC_REPLAY=$out/sync_stand_in PHASE_REPLAY=$out/phase_stand_in DEMAP_REPLAY=$out/demap_stand_in EQ_REPLAY=$out/eq_stand_in
 
 # slips FILE: the names of the slips in a stand-in, each with its function if it has one
 slips() {
@@ -48,13 +48,14 @@ find_all() {
     echo "all $found planted slips of $part were found"
 }
 
-[ $# -gt 0 ] || set -- fx sync phase demap
+[ $# -gt 0 ] || set -- fx sync phase demap eq
 for part; do
     case $part in
         fx) find_all fx stand_in.rs 17 ;;
         sync) find_all sync sync_stand_in.rs 18 ;;
         phase) find_all phase phase_stand_in.rs 25 ;;
-        demap) find_all demap soft.rs 9 && find_all demap demap_stand_in.rs 21 ;;
-        *) echo "usage: slip.sh [fx] [sync] [phase] [demap]" >&2; exit 2 ;;
+        demap) find_all demap soft.rs 9 && find_all demap demap_stand_in.rs 23 ;;
+        eq) find_all eq eq_stand_in.rs 26 ;;
+        *) echo "usage: slip.sh [fx] [sync] [phase] [demap] [eq]" >&2; exit 2 ;;
     esac
 done

@@ -7,7 +7,7 @@ use cases::demap::model::{Rules, RULES};
 use std::io::{stdin, stdout, BufReader, BufWriter, Read, Write};
 
 /// Each slip: its name (slip.sh reads it), and what it does to the rules.
-const SLIPS: [(&str, fn(&mut Rules)); 21] = [
+const SLIPS: [(&str, fn(&mut Rules)); 23] = [
     ("label_from_the_wrong_modulus", |r| r.by_label = false),
     ("mean_toward_zero", |r| r.rounds_down = false),
     ("missing_label_ignored", |r| r.every_label = false),
@@ -29,6 +29,8 @@ const SLIPS: [(&str, fn(&mut Rules)); 21] = [
     ("range_before_bits", |r| r.bits_first = false),
     ("count_before_range", |r| r.range_first = false),
     ("long_slice_taken", |r| r.exact_slice = false),
+    ("room_for_one_symbol", |r| r.room_for_all = false),
+    ("last_bit_first_in_a_block", |r| r.first_bit_first = false),
 ];
 
 fn rules() -> Rules {

@@ -1,6 +1,7 @@
 //! What is compared, and on which inputs: shared by the programs beside it.
 
 pub mod demap;
+pub mod eq;
 pub mod fx;
 pub mod inputs;
 pub mod phase;

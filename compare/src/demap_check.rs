@@ -53,7 +53,7 @@ fn demaps(size: Size, random: &mut Random) {
     tally.print("demap, limits");
     for bits in 1..=5 {
         let mut tally = Tally::default();
-        for _ in 0..if size == Size::Full { 10_000_000 } else { 600_000 } {
+        for _ in 0..if size == Size::Full { 10_000_000 } else { 1_000_000 } {
             demap(&mut tally, &soft::any_demap(bits, random));
         }
         tally.print(&format!("demap, {bits} bits"));

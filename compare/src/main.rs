@@ -1,8 +1,9 @@
-//! compare [fx] [sync] [phase] [demap] [--quick | --full] [--seed N]: the port beside the Rust, on the same inputs. Without a
-//! part: all.
+//! compare [fx] [sync] [phase] [demap] [eq] [--quick | --full] [--seed N]: the port beside the Rust, on the same inputs.
+//! Without a part: all.
 
 mod check;
 mod demap_check;
+mod eq_check;
 mod fx_check;
 mod phase_check;
 mod port;
@@ -20,6 +21,7 @@ struct Arguments {
     sync: bool,
     phase: bool,
     demap: bool,
+    eq: bool,
     /// Random calls a function of fx.
     calls: u64,
     size: Size,
@@ -27,13 +29,21 @@ struct Arguments {
 }
 
 fn usage() -> ! {
-    eprintln!("usage: compare [fx] [sync] [phase] [demap] [--quick | --full] [--seed NUMBER]");
+    eprintln!("usage: compare [fx] [sync] [phase] [demap] [eq] [--quick | --full] [--seed NUMBER]");
     std::process::exit(2)
 }
 
 fn arguments() -> Arguments {
-    let mut a =
-        Arguments { fx: false, sync: false, phase: false, demap: false, calls: RANDOM, size: Size::Short, seed: SEED };
+    let mut a = Arguments {
+        fx: false,
+        sync: false,
+        phase: false,
+        demap: false,
+        eq: false,
+        calls: RANDOM,
+        size: Size::Short,
+        seed: SEED,
+    };
     let mut words = std::env::args().skip(1);
     while let Some(word) = words.next() {
         match word.as_str() {
@@ -41,14 +51,15 @@ fn arguments() -> Arguments {
             "sync" => a.sync = true,
             "phase" => a.phase = true,
             "demap" => a.demap = true,
+            "eq" => a.eq = true,
             "--quick" => a.calls = QUICK,
             "--full" => a.size = Size::Full,
             "--seed" => a.seed = words.next().and_then(|n| n.parse().ok()).unwrap_or_else(|| usage()),
             _ => usage(),
         }
     }
-    if !(a.fx || a.sync || a.phase || a.demap) {
-        (a.fx, a.sync, a.phase, a.demap) = (true, true, true, true);
+    if !(a.fx || a.sync || a.phase || a.demap || a.eq) {
+        (a.fx, a.sync, a.phase, a.demap, a.eq) = (true, true, true, true, true);
     }
     a
 }
@@ -66,5 +77,8 @@ fn main() {
     }
     if a.demap {
         demap_check::compare(a.size, a.seed);
+    }
+    if a.eq {
+        eq_check::compare(a.size, a.seed);
     }
 }

@@ -1,12 +1,14 @@
-//! vectors fx|sync|phase|demap DIR: writes DIR/stdin, calls for the replay program, and DIR/stdout, the answers it owes:
+//! vectors fx|sync|phase|demap|eq DIR: writes DIR/stdin, calls for the replay program, and DIR/stdout, the answers it owes:
 //! the Rust's, and document 01's refusals. The port has no part in it.
 //!
 //! fx, stdin: the carrier table (1,024 i16), then calls of op, a, b. stdout: answers of refusal, x, y.
 //! Numbers of a call or an answer have 8 bytes; all are least byte first.
-//! sync, phase, demap: calls and answers as README.md has them. Where the Rust cannot be asked the answers are the model's.
+//! sync, phase, demap, eq: calls and answers as README.md has them. Where the Rust cannot be asked the answers are the model's.
 
 use cases::demap::kinds::KINDS as DEMAP_KINDS;
 use cases::demap::player as demap;
+use cases::eq::kinds::KINDS as EQ_KINDS;
+use cases::eq::player as eq;
 use cases::fx::{Answer, Function, Kind, FUNCTIONS};
 use cases::inputs::{self, Pair, Random, Size};
 use cases::phase::kinds::KINDS;
@@ -107,6 +109,19 @@ fn demap_files() -> Files {
     [("stdin", stdin), ("stdout", stdout)]
 }
 
+fn eq_files() -> Files {
+    let (mut stdin, mut stdout) = (Vec::new(), Vec::new());
+    let mut sink = |calls: Vec<u8>, owed: Vec<eq::Owed>| {
+        stdin.extend(calls);
+        stdout.extend(owed.iter().flat_map(|o| o.told).flat_map(u64::to_le_bytes));
+    };
+    let mut player = eq::Player::sparse(SEED, 61, &mut sink);
+    let mut random = Random(SEED);
+    EQ_KINDS.iter().for_each(|kind| (kind.play)(&mut player, &mut random, Size::Sample));
+    player.end();
+    [("stdin", stdin), ("stdout", stdout)]
+}
+
 fn fx_files() -> Files {
     let mut random = Random(SEED);
     let table = inputs::cosine_table();
@@ -123,7 +138,7 @@ fn fx_files() -> Files {
 }
 
 fn usage() -> ! {
-    eprintln!("usage: vectors fx|sync|phase|demap DIR");
+    eprintln!("usage: vectors fx|sync|phase|demap|eq DIR");
     std::process::exit(2)
 }
 
@@ -135,6 +150,7 @@ fn main() -> std::io::Result<()> {
         "sync" => sync_files(),
         "phase" => phase_files(),
         "demap" => demap_files(),
+        "eq" => eq_files(),
         _ => usage(),
     };
     for (name, bytes) in files {

@@ -8,6 +8,9 @@ pub type Numbers = [u64; 24];
 /// One more than a call takes, of each slice.
 pub const SLICE: usize = 125;
 
+/// The soft buffer of a block.
+pub const SOFT: usize = 41;
+
 #[derive(Debug, Clone, Copy, PartialEq)]
 pub enum Call {
     New,
@@ -28,6 +31,20 @@ pub enum Call {
     Label { a: u64 },
     Force,
     Figure,
+    Metric { y: [i16; 2], p: [i16; 2] },
+    Block(Block),
+}
+
+/// A block of symbols from the learned numbers, with points from the nominal ones: how many are lent, and how much of the
+/// buffer; the soft values from `from` on are told.
+#[derive(Debug, Clone, Copy, PartialEq)]
+pub struct Block {
+    pub symbols: u64,
+    pub points: u64,
+    pub room: u64,
+    pub bits: u64,
+    pub k: i64,
+    pub from: u64,
 }
 
 fn signed(v: impl Into<i64>) -> u64 {
@@ -68,6 +85,8 @@ impl Call {
             Call::Label { a } => filled(&[15, a]),
             Call::Force => filled(&[16]),
             Call::Figure => filled(&[17]),
+            Call::Metric { y, p } => filled(&[18, signed(y[0]), signed(y[1]), signed(p[0]), signed(p[1])]),
+            Call::Block(b) => filled(&[19, b.symbols, b.points, b.room, b.bits, signed(b.k), b.from]),
         }
     }
 
@@ -84,6 +103,8 @@ impl Call {
             Call::SetLearned { .. } | Call::SetNominal { .. } => &[64, 16],
             Call::Part { .. } => &[64, 64, 64],
             Call::Label { .. } => &[64],
+            Call::Metric { .. } => &[16, 16, 16, 16],
+            Call::Block(_) => &[64, 64, 64, 64, 64, 64],
             _ => &[],
         }
     }
@@ -129,6 +150,11 @@ impl Call {
             15 => Call::Label { a: n[1] },
             16 => Call::Force,
             17 => Call::Figure,
+            18 => Call::Metric { y: pair(1), p: pair(3) },
+            19 => {
+                let (symbols, points, room, bits, k, from) = (n[1], n[2], n[3], n[4], n[5] as i64, n[6]);
+                Call::Block(Block { symbols, points, room, bits, k, from })
+            }
             _ => return None,
         })
     }
@@ -139,6 +165,15 @@ impl Call {
 /// A refusal, or 0, and two numbers.
 pub fn single(refusal: u8, v: u64, w: u64) -> Numbers {
     filled(&[refusal.into(), v, w])
+}
+
+/// Four soft values from `from` on, if there are.
+pub fn soft_told(refusal: u8, from: u64, soft: &[i8; SOFT]) -> Numbers {
+    if from > SOFT as u64 - 4 {
+        return single(255, 0, 0);
+    }
+    let at = |k: usize| signed(soft[from as usize + k]);
+    filled(&[refusal.into(), at(0), at(1), at(2), at(3)])
 }
 
 pub fn force_told(f: &Force) -> Numbers {

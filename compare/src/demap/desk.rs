@@ -1,7 +1,7 @@
 //! What the replay program owes for each call, by the model: it keeps states and slices, as the program does.
 
-use super::calls::{force_told, label_told, single, Call, Numbers, SLICE};
-use super::model::{Force, Learn, Rules, LABELS, NUMBERS};
+use super::calls::{force_told, label_told, single, soft_told, Call, Numbers, SLICE, SOFT};
+use super::model::{metric, Force, Learn, Rules, LABELS, NUMBERS};
 use crate::sync::calls::mixed;
 
 pub struct Desk {
@@ -13,7 +13,7 @@ pub struct Desk {
 }
 
 /// As many entries as a call says, of those that there are.
-fn lent(n: u64) -> usize {
+pub fn lent(n: u64) -> usize {
     n.min(SLICE as u64) as usize
 }
 
@@ -66,6 +66,13 @@ impl Desk {
             Call::Label { a } if a < LABELS as u64 => return label_told(learn, a as usize),
             Call::Label { .. } => return single(255, 0, 0),
             Call::Force => return force_told(force),
+            Call::Metric { y, p } => return single(0, metric(y, p) as u64, 0),
+            Call::Block(b) => {
+                let mut soft = [85; SOFT];
+                let out = &mut soft[..b.room.min(SOFT as u64) as usize];
+                let refusal = rules.block(&learned[..lent(b.symbols)], &nominal[..lent(b.points)], b.bits, b.k, out);
+                return soft_told(refusal, b.from, &soft);
+            }
             Call::Figure => {
                 let (refusal, n0) = rules.n0(learn);
                 return single(refusal, n0.is_some().into(), n0.unwrap_or(0) as u64);

@@ -1,8 +1,9 @@
 //! The kinds of calls.
 
-use super::calls::Call;
+use super::calls::{Block, Call};
 use super::model::{labels, Force};
 use super::player::{Player, ALL};
+use super::soft::{any_points, any_scale, any_symbol};
 use crate::inputs::{pick, Random, Size};
 
 pub struct Kind {
@@ -10,7 +11,7 @@ pub struct Kind {
     pub play: fn(&mut Player, &mut Random, Size),
 }
 
-pub const KINDS: [Kind; 9] = [
+pub const KINDS: [Kind; 10] = [
     Kind { name: "refusals in order", play: refusals },
     Kind { name: "limits of learning", play: learning_limits },
     Kind { name: "limits in force", play: force_limits },
@@ -20,6 +21,7 @@ pub const KINDS: [Kind; 9] = [
     Kind { name: "handed-in states", play: handed_in },
     Kind { name: "states led to", play: led },
     Kind { name: "slices and others", play: slices },
+    Kind { name: "metrics and blocks", play: blocks },
 ];
 
 const MOST: u32 = 1 << 26;
@@ -84,7 +86,7 @@ fn frame_end(p: &mut Player, frame: u32, r: &mut Random) {
 /// Frames of slots of mixed widths, each slot with its pilots or the first of them, and noise samples.
 fn frames(p: &mut Player, r: &mut Random, size: Size) {
     p.start();
-    for frame in 0..times(size, [1, 8_000, 150_000]) {
+    for frame in 0..times(size, [1, 16_000, 150_000]) {
         p.new_learn();
         let slots = if size == Size::Sample { 3 } else { r.below(12) };
         for _ in 0..slots {
@@ -109,7 +111,7 @@ fn frames(p: &mut Player, r: &mut Random, size: Size) {
 /// Few and small pilots, so that most means are at a half, of either sign.
 fn halves(p: &mut Player, r: &mut Random, size: Size) {
     p.start();
-    for frame in 0..times(size, [3, 30_000, 600_000]) {
+    for frame in 0..times(size, [3, 60_000, 600_000]) {
         p.new_learn();
         let bits = 1 + r.below(2) as u64;
         let reach = 1 + r.below(4);
@@ -129,7 +131,7 @@ fn halves(p: &mut Player, r: &mut Random, size: Size) {
 /// Without a sample the noise figure stays; without pilots the points are nominal again.
 fn chains(p: &mut Player, r: &mut Random, size: Size) {
     p.start();
-    for _ in 0..times(size, [2, 15_000, 300_000]) {
+    for _ in 0..times(size, [2, 30_000, 300_000]) {
         p.new_learn();
         let taught = r.below(6) as u64;
         for bits in (1..=5).filter(|&b| b <= taught) {
@@ -369,7 +371,7 @@ fn force_limits(p: &mut Player, r: &mut Random, size: Size) {
 
 /// Anything, and calls on it.
 fn handed_in(p: &mut Player, r: &mut Random, size: Size) {
-    for _ in 0..times(size, [3, 10_000, 200_000]) {
+    for _ in 0..times(size, [3, 20_000, 200_000]) {
         p.hand_in_learn(Call::New);
         let bits = 1 + r.below(times(size, [2, 5, 5])) as u64;
         for a in labels(bits) {
@@ -415,7 +417,7 @@ fn handed_in(p: &mut Player, r: &mut Random, size: Size) {
 /// States that the Rust is led to, and calls on them.
 fn led(p: &mut Player, r: &mut Random, size: Size) {
     p.start();
-    for _ in 0..times(size, [2, 10_000, 200_000]) {
+    for _ in 0..times(size, [2, 20_000, 200_000]) {
         let bits = 1 + r.below(times(size, [2, 5, 5])) as u64;
         let few = r.below(8) == 0;
         let turns = 1 + r.below(5) as u64;
@@ -458,9 +460,53 @@ fn slices(p: &mut Player, r: &mut Random, size: Size) {
             p.ask(Call::Label { a: k - 62 });
         }
         p.tell_all();
-        for op in [18, 19, 255, 256, 1 << 32, u64::MAX] {
+        for op in [20, 21, 255, 256, 1 << 32, u64::MAX] {
             p.unknown(std::array::from_fn(|k| if k == 0 { op } else { r.next() }));
         }
         p.slices();
     }
+}
+
+/// Blocks of up to eight symbols, the lengths mostly right.
+fn blocks(p: &mut Player, r: &mut Random, size: Size) {
+    for _ in 0..times(size, [2, 20_000, 300_000]) {
+        let bits = 1 + r.below(times(size, [2, 5, 5])) as u64;
+        let points = any_points(bits as usize, r);
+        for (k, &v) in (0..).zip(&points) {
+            p.ask(Call::SetNominal { k, v });
+        }
+        for j in 0..times(size, [3, 9, 9]) {
+            let y = any_symbol(&points, r);
+            p.ask(Call::SetLearned { k: 2 * j, v: y[0] });
+            p.ask(Call::SetLearned { k: 2 * j + 1, v: y[1] });
+            p.metric(y, [points[0], points[1]]);
+        }
+        for _ in 0..times(size, [8, 30, 30]) {
+            let symbols = r.below(18) as u64;
+            let room = match r.below(4) {
+                0 => (symbols / 2 * bits).saturating_sub(r.below(2) as u64),
+                1 => symbols / 2 * bits,
+                _ => r.below(44) as u64,
+            };
+            let right = Block { symbols, points: 2 << bits, room, bits, k: any_scale(r), from: r.below(39) as u64 };
+            p.block(match r.below(16) {
+                0 => Block { points: r.below(130) as u64, ..right },
+                1 => Block { bits: pick(r, &WRONG_BITS), ..right },
+                2 => Block { k: pick(r, &[-1, TOP_SCALE + 1, i64::MIN, i64::MAX]), ..right },
+                3 => Block { from: pick(r, &[37, 38, 41, 1 << 32, u64::MAX]), ..right },
+                _ => right,
+            });
+        }
+    }
+    let right = Block { symbols: 4, points: 8, room: 4, bits: 2, k: 1, from: 0 };
+    p.refused(Call::Block(right), 0);
+    p.refused(Call::Block(Block { room: 3, ..right }), 1);
+    p.refused(Call::Block(Block { room: 3, points: 7, k: -1, ..right }), 1);
+    p.refused(Call::Block(Block { bits: u64::MAX, points: 7, k: -1, ..right }), 1);
+    p.refused(Call::Block(Block { points: 7, k: -1, ..right }), 4);
+    p.refused(Call::Block(Block { symbols: 0, room: 0, bits: 6, k: -1, ..right }), 4);
+    p.refused(Call::Block(Block { symbols: 1, room: 0, bits: u64::MAX, k: -1, ..right }), 4);
+    p.refused(Call::Block(Block { k: -1, ..right }), 5);
+    p.refused(Call::Block(Block { k: TOP_SCALE + 1, ..right }), 5);
+    p.refused(Call::Block(Block { symbols: 0, room: 0, ..right }), 0);
 }

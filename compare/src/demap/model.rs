@@ -28,6 +28,8 @@ pub struct Rules {
     pub range_first: bool,
     pub exact_slice: bool,
     pub least_noise: i128,
+    pub room_for_all: bool,
+    pub first_bit_first: bool,
 }
 
 pub const RULES: Rules = Rules {
@@ -51,6 +53,8 @@ pub const RULES: Rules = Rules {
     range_first: true,
     exact_slice: true,
     least_noise: 256,
+    room_for_all: true,
+    first_bit_first: true,
 };
 
 #[derive(Debug, Clone, PartialEq, Eq)]
@@ -79,6 +83,12 @@ pub fn labels(bits: u64) -> std::ops::Range<usize> {
 pub fn numbers(bits: u64) -> std::ops::Range<usize> {
     let l = labels(bits);
     2 * l.start..2 * l.end
+}
+
+/// The distance to a point, squared, less the size of the symbol, squared.
+pub fn metric(y: [i16; 2], p: [i16; 2]) -> i64 {
+    let part = |y: i16, p: i16| (i64::from(y) - i64::from(p)).pow(2) - i64::from(y).pow(2);
+    part(y[0], p[0]) + part(y[1], p[1])
 }
 
 fn right_bits(bits: u64) -> bool {
@@ -225,6 +235,37 @@ impl Rules {
         f.n0 = self.figure(l).unwrap_or(if self.keeps_figure { old.n0 } else { 52_556 });
         f.k = self.scale_of(if self.scales_new { f.n0 } else { old.n0 });
         f.from = Some(frame);
+        0
+    }
+
+    fn soft(&self, y: [i16; 2], points: &[i16], bits: u64, k: i64, out: &mut [i8]) {
+        for (b, out) in (0..bits).zip(out) {
+            let place = if self.first_bit_first { bits - 1 - b } else { b };
+            let least = |bit: usize| {
+                let metrics = points.chunks_exact(2).enumerate().filter(|(label, _)| label >> place & 1 == bit);
+                metrics.map(|(_, p)| metric(y, [p[0], p[1]])).min().expect("a point")
+            };
+            let scaled = i128::from(least(1) - least(0)) * i128::from(k);
+            *out = (scaled + (1 << 31)).div_euclid(1 << 32).clamp(-127, 127) as i8;
+        }
+    }
+
+    /// Two numbers to a symbol, and to a point.
+    pub fn block(&self, symbols: &[i16], points: &[i16], bits: u64, k: i64, out: &mut [i8]) -> u8 {
+        let symbols: Vec<_> = symbols.chunks_exact(2).map(|y| [y[0], y[1]]).collect();
+        let count = if self.room_for_all { symbols.len() } else { symbols.len().min(1) };
+        if (out.len() as u128) < count as u128 * u128::from(bits) {
+            return 1;
+        }
+        if !right_bits(bits) || points.len() != 2 << bits {
+            return 4;
+        }
+        if !(0..=1 << 24).contains(&k) {
+            return 5;
+        }
+        for (y, out) in symbols.into_iter().zip(out.chunks_mut(bits as usize)) {
+            self.soft(y, points, bits, k, out);
+        }
         0
     }
 

@@ -1,9 +1,10 @@
 //! Makes calls with what each owes, while the Rust goes beside them wherever it can be given the same: the model has to
 //! agree with it. The model alone answers for refusals and for handed-in states.
 
-use super::calls::{Call, Numbers};
-use super::desk::{digest, Desk};
+use super::calls::{soft_told, Block, Call, Numbers, SOFT};
+use super::desk::{digest, lent, Desk};
 use super::model::{labels, numbers, Force, LABELS, NUMBERS, RULES};
+use super::soft::pairs;
 use crate::inputs::Random;
 use isdbs3_core::params::CodeRate;
 use isdbs3_core::slots::Slot;
@@ -208,7 +209,7 @@ impl<'a> Player<'a> {
     /// The Rust's fields of what is in force are public; its points are those of the slice.
     pub fn hand_in_force(&mut self, f: Force) {
         self.ask(Call::PutForce(f));
-        let set = |b: usize| super::soft::pairs(&self.desk.learned[numbers(b as u64 + 1)]);
+        let set = |b: usize| pairs(&self.desk.learned[numbers(b as u64 + 1)]);
         let learned = std::array::from_fn(|b| f.learned[b].then(|| set(b)));
         self.force = Some(rust::InForce { learned, n0: f.n0, k: f.k, from: f.from });
     }
@@ -290,6 +291,28 @@ impl<'a> Player<'a> {
             let slot = Slot { index: 0, mode: 0, modulation, rate, dummy: false, symbol_start: 0, symbols };
             let points = flat(&force.points(&slot));
             self.agree([told[1], told[2]], [points.len() as u64, digest(&points)]);
+        }
+        told[0]
+    }
+
+    // ---- the demapper
+
+    pub fn metric(&mut self, y: [i16; 2], p: [i16; 2]) {
+        let told = self.ask(Call::Metric { y, p });
+        self.agree(told[1] as i64, rust::metric(y, p));
+    }
+
+    /// A block: of the Rust, one symbol after the other.
+    pub fn block(&mut self, b: Block) -> u64 {
+        let told = self.ask(Call::Block(b));
+        if told[0] == 0 {
+            let points = pairs(&self.desk.nominal[..lent(b.points)]);
+            let symbols = pairs(&self.desk.learned[..lent(b.symbols)]);
+            let mut soft = [85; SOFT];
+            for (y, out) in symbols.into_iter().zip(soft.chunks_exact_mut(b.bits as usize)) {
+                rust::demap(y, &points, b.bits as usize, b.k, out);
+            }
+            self.agree(told, soft_told(0, b.from, &soft));
         }
         told[0]
     }

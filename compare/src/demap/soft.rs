@@ -106,7 +106,7 @@ fn clamped(v: i64) -> i16 {
 }
 
 /// 2^bits points in the order of their labels.
-fn any_points(bits: usize, r: &mut Random) -> Vec<i16> {
+pub fn any_points(bits: usize, r: &mut Random) -> Vec<i16> {
     let count = 1usize << bits;
     match r.below(8) {
         // anything
@@ -135,7 +135,7 @@ fn any_points(bits: usize, r: &mut Random) -> Vec<i16> {
 }
 
 /// Anything, an end, close to a point, or about halfway between two.
-fn any_symbol(points: &[i16], r: &mut Random) -> [i16; 2] {
+pub fn any_symbol(points: &[i16], r: &mut Random) -> [i16; 2] {
     let p = pairs(points);
     match r.below(6) {
         0 => [r.next() as i16, r.next() as i16],
@@ -149,7 +149,7 @@ fn any_symbol(points: &[i16], r: &mut Random) -> [i16; 2] {
     }
 }
 
-fn any_scale(r: &mut Random) -> i64 {
+pub fn any_scale(r: &mut Random) -> i64 {
     match r.below(8) {
         0 => pick(r, &[0, 1, 512, 513, TOP - 1, TOP]),
         1 => r.below(TOP as u64 + 1),

@@ -104,7 +104,9 @@ impl Call {
         match *self {
             Call::PutLine { line } => sixteens(&line),
             Call::PutTaps { taps } | Call::Load { taps, .. } => sixteens(&taps),
-            Call::PutUpper { values, .. } | Call::PutRight { values } => n[2..].copy_from_slice(&values.map(|v| v as u64)),
+            Call::PutUpper { values, .. } | Call::PutRight { values } => {
+                n[2..].copy_from_slice(&values.map(|v| v as u64))
+            }
             _ => {}
         }
         match *self {

@@ -122,13 +122,15 @@ impl Rules {
     }
 
     fn product_in_range(&self, re: i64, im: i64) -> bool {
-        (LEAST - self.spare..=GREATEST + self.spare).contains(&re) && (-TURN - self.spare..=TURN + self.spare).contains(&im)
+        (LEAST - self.spare..=GREATEST + self.spare).contains(&re)
+            && (-TURN - self.spare..=TURN + self.spare).contains(&im)
     }
 
     fn sums_in_range(&self, s: &Sums) -> bool {
         let entry = |((r, c), v): ((usize, usize), &[i64])| {
             if r == c {
-                v[1].unsigned_abs() <= self.spare.unsigned_abs() && (-self.spare..=GREATEST + self.spare).contains(&v[0])
+                v[1].unsigned_abs() <= self.spare.unsigned_abs()
+                    && (-self.spare..=GREATEST + self.spare).contains(&v[0])
             } else {
                 self.product_in_range(v[0], v[1])
             }

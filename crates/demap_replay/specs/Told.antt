@@ -32,7 +32,7 @@ unfoldable pub softTold : ℕ → ℕ → List ℤ → List ℕ
 softTold refusal o s =
     if ltb o 38
     then told refusal
-        ((bits (getD s o (pos 0)) ∷ bits (getD s (o + 1) (pos 0)) ∷ bits (getD s (o + 2) (pos 0)) ∷ bits (getD s (o + 3) (pos 0)) ∷ []) ++ replicate 5 0)
+    ((bits (getD s o (pos 0)) ∷ bits (getD s (o + 1) (pos 0)) ∷ bits (getD s (o + 2) (pos 0)) ∷ bits (getD s (o + 3) (pos 0)) ∷ []) ++ replicate 5 0)
     else singleTold 255 0 0
 
 -- ---- a noise figure: whether there is one, and it

@@ -1,105 +1,76 @@
-use borrow.Author.Needs.{needs}
-use Rattle.demap_replay.specs.Replay.{desk, readOf}
-use mathlib.Core.Path.{_∙_}
+-- `demap_replay::call::read` meets its contract. Assumes nothing.
 use Rattle.demap_replay.proofs.Laws.{read-none}
+use Rattle.demap_replay.specs.Replay.{desk, readOf}
+use borrow.Author.Needs.{needs}
+use mathlib.Core.Path.{_∙_}
 use Rattle.demap_replay.proofs.call.read.Statement.{statement}
 use Rattle.demap_replay.proofs.call.read.Tie as tie
-use Rattle.demap_replay.proofs.call.read.Reads as reads
-use Rattle.demap_replay.proofs.call.read.Lts as lts
-use Rattle.demap_replay.proofs.calls.block.Reads as block-reads
-use Rattle.demap_replay.proofs.calls.figure.Reads as figure-reads
-use Rattle.demap_replay.proofs.calls.label.Reads as label-reads
-use Rattle.demap_replay.proofs.calls.metric.Reads as metric-reads
-use Rattle.demap_replay.proofs.calls.part.Reads as part-reads
-use Rattle.demap_replay.proofs.told.force.Reads as force-reads
-use Rattle.demap_replay.proofs.told.single.Reads as single-reads
-use Rattle.wire.proofs.digest.Reads as digest-reads
 
--- src/call.rt:19:31
 digest-requires : tie.Need-digest-requires
 digest-requires c κs = search needs
 
--- src/call.rt:19:15
 single-requires : tie.Need-single-requires
 single-requires c κs = search needs
 
--- src/call.rt:20:31
 digest-requires-2 : tie.Need-digest-requires-2
 digest-requires-2 c κs = search needs
 
--- src/call.rt:20:15
 single-requires-2 : tie.Need-single-requires-2
 single-requires-2 c κs = search needs
 
--- src/call.rt:21:15
 part-requires : tie.Need-part-requires
 part-requires c κs = search needs
 
--- src/call.rt:22:15
 label-requires : tie.Need-label-requires
 label-requires c κs = search needs
 
--- src/call.rt:25:13
 force-requires : tie.Need-force-requires
 force-requires c κs = search needs
 
--- src/call.rt:27:15
 figure-requires : tie.Need-figure-requires
 figure-requires c κs = search needs
 
--- src/call.rt:28:15
 metric-requires : tie.Need-metric-requires
 metric-requires c κs = search needs
 
--- src/call.rt:29:15
 block-requires : tie.Need-block-requires
 block-requires c κs = search needs
 
--- src/call.rt:30:14
 single-requires-3 : tie.Need-single-requires-3
 single-requires-3 c κs = search needs
 
--- src/call.rt:14:1
 returns : tie.Need-returns
 unfolding readOf
 returns c = rw (c .before .before .match .keys1, c .single .ensures, c .before .digest .ensures)
 
--- src/call.rt:14:1
 returns-2 : tie.Need-returns-2
 unfolding readOf
 returns-2 c = rw (c .before .before .match .keys2, c .single2 .ensures, c .before .digest2 .ensures)
 
--- src/call.rt:14:1
 returns-3 : tie.Need-returns-3
 unfolding readOf
 returns-3 c = rw (c .before .match .keys3, c .part .ensures)
 
--- src/call.rt:14:1
 returns-4 : tie.Need-returns-4
 unfolding readOf
 returns-4 c = rw (c .before .match .keys4, c .label .ensures)
 
--- src/call.rt:14:1
 returns-5 : tie.Need-returns-5
 unfolding readOf
 returns-5 c = rw (c .before .before .match .keys5, c .force .ensures)
 
--- src/call.rt:14:1
 returns-6 : tie.Need-returns-6
 unfolding readOf
 returns-6 c = rw (c .before .match .keys6, c .figure .ensures)
 
--- src/call.rt:14:1
 returns-7 : tie.Need-returns-7
 unfolding readOf
 returns-7 c = rw (c .before .match .keys7, c .metric .ensures)
 
--- src/call.rt:14:1
 returns-8 : tie.Need-returns-8
 unfolding readOf
 returns-8 c = rw (c .before .match .keys8, c .block .ensures)
 
--- src/call.rt:14:1
 returns-9 : tie.Need-returns-9
 returns-9 c = let s = c .before .before in c .single3 .ensures ∙ read-none (s .args .op) (s .args .p .now) (desk (s .args .k) (s .args .learned .now) (s .args .nominal .now)) (s .pre) (c .before .match .rest)
 
