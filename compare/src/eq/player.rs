@@ -45,8 +45,12 @@ pub struct Solved {
 
 impl std::fmt::Display for Totals {
     fn fmt(&self, out: &mut std::fmt::Formatter) -> std::fmt::Result {
-        let Self { calls, by_rust, refused, .. } = self;
-        write!(out, "{calls:>9} calls, {by_rust:>9} by the Rust, {refused:>7} refused")
+        let Self { calls, by_rust, refused, solved } = self;
+        write!(out, "{calls:>9} calls, {by_rust:>9} by the Rust, {refused:>7} refused")?;
+        if solved.both != 0 {
+            write!(out, ", taps alike in {} of {}", solved.agreed, solved.both)?;
+        }
+        Ok(())
     }
 }
 

@@ -5,8 +5,8 @@ use crate::kept::Kept;
 use crate::kept::Turn;
 use crate::told;
 use eq::Answered;
-use eq::Equaliser;
 use eq::Equalised;
+use eq::Equaliser;
 ghost use mathlib.Core.Path.{_≡_};
 ghost use Rattle.eq_replay.specs.Calls.{plain, symbolTold, answeredTold, newCall, restartCall, pushCall, outputCall, openCall, trainCall, closeCall, loadCall, lineCall, tapsCall, numbersCall, upperCall, rightCall, keepCall, solveCall};
 

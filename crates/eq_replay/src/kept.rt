@@ -34,5 +34,8 @@ pub(crate) fn with_solver(k: Kept, s: Sums) -> Kept
 pub(crate) fn turned(k: Kept, told: [u64; 24]) -> Turn
     ensures { λ r. ⌜ r ≡ turned k told ⌝ }
 {
-    Turn { kept: k, told: told }
+    Turn {
+        kept: k,
+        told: told,
+    }
 }

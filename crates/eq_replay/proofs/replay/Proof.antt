@@ -6,12 +6,11 @@ use lib.ListN.{length}
 use Rattle.wire.proofs.Blocks.{soFar, leftFrom, replay-more, replay-none, replay-all}
 use Rattle.eq_replay.specs.Replay.{replayed, leftOf, answerBytes, after}
 use Rattle.eq_replay.proofs.Laws.{length-answer}
-use borrow.Author.Needs.{needs}
 use Rattle.eq_replay.proofs.replay.Statement.{statement}
 use Rattle.eq_replay.proofs.replay.Tie as tie
 
 abbrev Inv-loop : tie.InvT-loop
-Inv-loop buf₀ n s₀ i₀ buf s i = 
+Inv-loop buf₀ n s₀ i₀ buf s i =
     (i ≤ n) × (length buf ≡ length buf₀)
     × (soFar 192 answerBytes after length-answer (n - i) s buf (192 * i) ≡ replayed s₀ n buf₀)
     × (leftFrom 192 answerBytes after length-answer (n - i) s buf (192 * i) ≡ leftOf s₀ n buf₀)
@@ -20,14 +19,14 @@ abbrev μ-loop : tie.MeasureT-loop
 μ-loop buf₀ n s₀ i₀ buf s i = n - i
 
 loop-holds : tie.Need-loop-holds Inv-loop μ-loop
-loop-holds c = 
+loop-holds c =
     let s = c .before .args in
     let e : s .n - 0 ≡ s .n = omega arith in
     let g = replay-none 192 answerBytes after length-answer (s .n) (s .k) (s .buf .now) in
     (omega arith, refl, rw e (g .0), rw e (g .1))
 
 mul-replace : tie.Need-mul-replace Inv-loop μ-loop
-mul-replace c = omega (arith, c .before .before .before .pre, c .before .before .before .good)
+mul-replace c = omega (arith, c .before .before .before .before .pre, c .before .before .before .before .good)
 
 replace-requires : tie.Need-replace-requires Inv-loop μ-loop
 replace-requires c κs = omega (arith, c .before .before .before .before .pre)
@@ -39,7 +38,7 @@ loop-less : tie.Need-loop-less Inv-loop μ-loop
 loop-less c = omega arith
 
 loop-again : tie.Need-loop-again Inv-loop μ-loop
-loop-again c = 
+loop-again c =
     let h = c .before .before .before .before .before .loop in
     let s = c .before .before .before .before .before .before .before in
     let g = c .before .before .replace in
@@ -55,7 +54,7 @@ same-length : tie.Need-same-length Inv-loop μ-loop
 same-length c = c .before .loop .inv .1
 
 returns : tie.Need-returns Inv-loop μ-loop
-returns c = 
+returns c =
     let h = c .before .loop in
     let s = c .before .before .before .args in
     let all = replay-all 192 answerBytes after length-answer (s .n - h .i) (192 * h .i) (h .s) (h .buf) (omega arith) in

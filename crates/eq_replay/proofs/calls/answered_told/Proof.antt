@@ -27,7 +27,7 @@ told-requires-2 c κs = search needs
 
 returns : tie.Need-returns
 unfolding answeredTold
-returns c = 
+returns c =
     let z = c .before .before .before .before .before .before .a .given .0 .0 in
     let fi : SFits w16 (z .i) = search needs in
     let fq : SFits w16 (z .q) = search needs in

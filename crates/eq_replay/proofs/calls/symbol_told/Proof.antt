@@ -31,7 +31,7 @@ returns c = rw (c .before .enum-told .given .1, c .told .ensures)
 
 returns-2 : tie.Need-returns-2
 unfolding symbolTold
-returns-2 c = 
+returns-2 c =
     let z = c .before .before .before .before .before .before .s .given .0 .0 in
     let fi : SFits w16 (z .i) = search needs in
     let fq : SFits w16 (z .q) = search needs in

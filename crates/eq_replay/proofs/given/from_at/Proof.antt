@@ -1,7 +1,7 @@
 -- `eq_replay::given::from_at` meets its contract. Assumes nothing.
 use Rattle.laws.specs.Choice.{if-yes, if-no}
-use mathlib.Core.Path.{_∙_, sym}
-use borrow.Author.Tests.{eq-eqb, ne-eqb, lt-ltb, le-ltb}
+use mathlib.Core.Path.{sym}
+use borrow.Author.Tests.{eq-eqb, ne-eqb}
 use Rattle.eq_replay.specs.Given.{fromOf}
 use borrow.Author.Needs.{needs}
 use Rattle.eq_replay.proofs.given.from_at.Statement.{statement}

@@ -1,7 +1,6 @@
 -- `eq_replay::given::line_put` meets its contract. Assumes nothing.
 use mathlib.Core.Path.{refl}
 use Rattle.eq_replay.specs.Given.{linePut}
-use borrow.Author.Needs.{needs}
 use Rattle.eq_replay.proofs.given.line_put.Statement.{statement}
 use Rattle.eq_replay.proofs.given.line_put.Tie as tie
 

@@ -50,7 +50,7 @@ loop-less : tie.Need-loop-less Inv-loop μ-loop
 loop-less c = search needs
 
 loop-again : tie.Need-loop-again Inv-loop μ-loop
-loop-again c = 
+loop-again c =
     let h = c .before .before .before in
     let s = h .before .before .args in
     let ys = h .before .no-sixteens .result in
@@ -58,7 +58,7 @@ loop-again c =
 
 returns : tie.Need-returns Inv-loop μ-loop
 unfolding sixteensOf
-returns c = 
+returns c =
     let h = c .before in
     let s = h .before .before .args in
     let ys = h .before .no-sixteens .result in

@@ -1,8 +1,8 @@
 -- `eq_replay::given::upper_entry` meets its contract. Assumes nothing.
 use mir.Facts.{toZ-ofZ}
 use Rattle.laws.specs.Choice.{if-yes, if-no}
-use mathlib.Core.Path.{_∙_, sym}
-use borrow.Author.Tests.{eq-eqb, ne-eqb, lt-ltb, le-ltb}
+use mathlib.Core.Path.{sym}
+use borrow.Author.Tests.{eq-eqb, ne-eqb}
 use Rattle.eq_replay.specs.Given.{upperEntry}
 use borrow.Author.Needs.{needs}
 use Rattle.eq_replay.proofs.given.upper_entry.Statement.{statement}

@@ -1,5 +1,5 @@
 -- `eq_replay::given::upper_of` meets its contract. Assumes nothing.
-use Prim.Native.Nat.{ℕ, _+_, _-_, _≤_}
+use Prim.Native.Nat.{_-_, _≤_}
 use Rattle.laws.proofs.Lists.{firsts-step}
 use Rattle.laws.specs.Ranges.{firsts}
 use lib.ListN.{drop, drop-of-length-le}
@@ -41,7 +41,7 @@ loop-less : tie.Need-loop-less Inv-loop μ-loop
 loop-less c = search needs
 
 loop-again : tie.Need-loop-again Inv-loop μ-loop
-loop-again c = 
+loop-again c =
     let h = c .before .before in
     let s = h .before .before .args in
     let ys = h .before .no-upper .result in
@@ -49,7 +49,7 @@ loop-again c =
 
 returns : tie.Need-returns Inv-loop μ-loop
 unfolding upperOf
-returns c = 
+returns c =
     let h = c .before in
     let s = h .before .before .args in
     let ys = h .before .no-upper .result in

@@ -1,7 +1,6 @@
 -- `eq_replay::told::flag` meets its contract. Assumes nothing.
 use Rattle.laws.specs.Choice.{cases}
 use Rattle.eq_replay.specs.Told.{flagOf}
-use borrow.Author.Needs.{needs}
 use Rattle.eq_replay.proofs.told.flag.Statement.{statement}
 use Rattle.eq_replay.proofs.told.flag.Tie as tie
 

@@ -1,5 +1,5 @@
 -- `eq_replay::told::solved` meets its contract. Assumes nothing.
-use Prim.Native.Nat.{ℕ, _+_, _-_, _≤_}
+use Prim.Native.Nat.{_-_, _≤_}
 use Rattle.laws.proofs.Lists.{firsts-step}
 use Rattle.laws.specs.Ranges.{firsts}
 use lib.ListN.{drop, drop-of-length-le}
@@ -40,7 +40,7 @@ loop-less : tie.Need-loop-less Inv-loop μ-loop
 loop-less c = search needs
 
 loop-again : tie.Need-loop-again Inv-loop μ-loop
-loop-again c = 
+loop-again c =
     let h = c .before .before in
     let s = h .before .before .args in
     let ys = h .before .no-numbers .result in
@@ -48,7 +48,7 @@ loop-again c =
 
 returns : tie.Need-returns Inv-loop μ-loop
 unfolding solvedTold
-returns c = 
+returns c =
     let h = c .before in
     let s = h .before .before .args in
     let ys = h .before .no-numbers .result in
