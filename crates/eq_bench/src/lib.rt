@@ -40,7 +40,7 @@ fn filter_all(rows: &[i16; 96], line: &mut [i16; 22], ys: &[i16], out: &mut [i16
     let mut k: usize = 0;
     while k < m {
         eq_fir::ranged::shift(line, ys[2 * k], ys[2 * k + 1]);
-        let z = eq_fir::by_rows::output(rows, line);
+        let z = eq_fir::ranged_rows::output(rows, line);
         let i = z.i;
         let q = z.q;
         out[2 * k] = i;
@@ -55,7 +55,7 @@ pub extern "C" fn sv_bench_rows(taps: Line) -> Rows
     ensures { λ r. ⌜ r .x ≡ rowsOf (taps .x) ⌝ }
 {
     let t = taps.x;
-    let x = eq_fir::by_rows::rows(&t);
+    let x = eq_fir::ranged_rows::rows(&t);
     Rows { x: x }
 }
 

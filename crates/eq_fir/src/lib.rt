@@ -1,6 +1,6 @@
 // The equaliser's line of 11 symbols and its filter, after `push` and `output` of chain/eq.rs.
-pub mod by_rows;
 pub mod ranged;
+pub mod ranged_rows;
 
 // The sums of a line's products with the four rows.
 struct Dots {

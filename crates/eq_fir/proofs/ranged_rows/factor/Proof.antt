@@ -10,8 +10,8 @@ use mir.Facts.{toZ-ofZ}
 use mir.Syntax.{w16}
 use mir.Val.{SFits}
 use native.Mathlib.Omega.{arith}
-use Rattle.eq_fir.proofs.by_rows.factor.Statement.{statement}
-use Rattle.eq_fir.proofs.by_rows.factor.Tie as tie
+use Rattle.eq_fir.proofs.ranged_rows.factor.Statement.{statement}
+use Rattle.eq_fir.proofs.ranged_rows.factor.Tie as tie
 
 add-byte : tie.Need-add-byte
 add-byte c = search needs

@@ -9,8 +9,8 @@ use mir.Facts.{toZ-ofZ}
 use mir.Syntax.{w16}
 use mir.Val.{SFits}
 use native.Mathlib.Omega.{arith}
-use Rattle.eq_fir.proofs.by_rows.byte.Statement.{statement}
-use Rattle.eq_fir.proofs.by_rows.byte.Tie as tie
+use Rattle.eq_fir.proofs.ranged_rows.byte.Statement.{statement}
+use Rattle.eq_fir.proofs.ranged_rows.byte.Tie as tie
 
 mul-result : tie.Need-mul-result
 mul-result c =

@@ -15,8 +15,8 @@ use mathlib.Core.Path.{_∙_, _≡_, ap, refl}
 use mir.Syntax.{w16}
 use native.Mathlib.Nat.{not-suc-le-zero}
 use native.Mathlib.Omega.{arith}
-use Rattle.eq_fir.proofs.by_rows.rows.Statement.{statement}
-use Rattle.eq_fir.proofs.by_rows.rows.Tie as tie
+use Rattle.eq_fir.proofs.ranged_rows.rows.Statement.{statement}
+use Rattle.eq_fir.proofs.ranged_rows.rows.Tie as tie
 
 -- entry j, of padded taps
 abbrev entry : List ℤ → ℕ → ℤ

@@ -4,8 +4,8 @@ use Rattle.laws.proofs.Size.{arg, at, back, fits, lit, plus, times}
 use borrow.Author.Needs.{needs}
 use mir.Syntax.{w16, w64}
 use native.Mathlib.Omega.{arith}
-use Rattle.eq_fir.proofs.by_rows.finished.Statement.{statement}
-use Rattle.eq_fir.proofs.by_rows.finished.Tie as tie
+use Rattle.eq_fir.proofs.ranged_rows.finished.Statement.{statement}
+use Rattle.eq_fir.proofs.ranged_rows.finished.Tie as tie
 
 cast-round-shift : tie.Need-cast-round-shift
 cast-round-shift c = fits w64 (arg (c .fits .high)) tt

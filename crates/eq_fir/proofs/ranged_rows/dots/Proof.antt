@@ -10,8 +10,8 @@ use mir.Val.{SFits}
 use native.Mathlib.Nat.{zero-add}
 use native.Mathlib.Numerals.{add-one}
 use native.Mathlib.Omega.{arith}
-use Rattle.eq_fir.proofs.by_rows.dots.Statement.{statement}
-use Rattle.eq_fir.proofs.by_rows.dots.Tie as tie
+use Rattle.eq_fir.proofs.ranged_rows.dots.Statement.{statement}
+use Rattle.eq_fir.proofs.ranged_rows.dots.Tie as tie
 
 abbrev Inv-loop : tie.InvT-loop
 Inv-loop l rows a₀ b₀ c₀ d₀ k₀ a b c d k = (k ≤ 24) × Sum l rows 0 k a × Sum l rows 24 k b × Sum l rows 48 k c × Sum l rows 72 k d

@@ -1,9 +1,9 @@
--- `eq_fir::by_rows::added` meets its contract, by the sizes of the sum and of the factors. Assumes nothing.
+-- `eq_fir::ranged_rows::added` meets its contract, by the sizes of the sum and of the factors. Assumes nothing.
 use Prim.Native.Nat.{_^_}
 use Rattle.laws.proofs.Size.{arg, arg-le, fits, plus, times, at}
 use mir.Syntax.{w32}
-use Rattle.eq_fir.proofs.by_rows.added.Statement.{statement}
-use Rattle.eq_fir.proofs.by_rows.added.Tie as tie
+use Rattle.eq_fir.proofs.ranged_rows.added.Statement.{statement}
+use Rattle.eq_fir.proofs.ranged_rows.added.Tie as tie
 
 cast-result : tie.Need-cast-result
 cast-result c = fits w32 (arg (c .fits .x)) tt

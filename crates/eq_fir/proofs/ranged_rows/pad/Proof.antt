@@ -14,8 +14,8 @@ use mathlib.Core.List.{List, [], _++_, _∷_}
 use mathlib.Core.Path.{_∙_, _≡_, ap, refl}
 use mir.Syntax.{w16}
 use native.Mathlib.Omega.{arith}
-use Rattle.eq_fir.proofs.by_rows.pad.Statement.{statement}
-use Rattle.eq_fir.proofs.by_rows.pad.Tie as tie
+use Rattle.eq_fir.proofs.ranged_rows.pad.Statement.{statement}
+use Rattle.eq_fir.proofs.ranged_rows.pad.Tie as tie
 
 abbrev Inv-loop : tie.InvT-loop
 Inv-loop l r₀ k₀ r k = (k ≤ 22) × (r ≡ firsts (nth l) k ++ drop k (replicate 24 (pos 0)))
