@@ -105,9 +105,18 @@ take-ok b c f s hf hs r h =
 no : {X : Type 0} (n : ℕ) → suc n ≡ 0 → X
 no n e = absurd (omega (arith, e))
 
-pub push-ok : (b : Back) (c : Corrected) (f s : List ℤ) → pushRefusal b c f s ≡ 0 → PushOk b c f s
+-- what is known of a symbol that is not refused
+pub record Accepted (b : Back) (c : Corrected) (f s : List ℤ) : Type 0 where
+  pub first : onesOf f ≡ true
+  pub second : onesOf s ≡ true
+  pub back : backInRange b ≡ true
+  pub place : ltb (c .j) 9296 ≡ true
+  pub before : leb (2 ^ 62) (c .at) ≡ false
+  pub room : fullBack (joinedTo b (c .at)) ≡ false
+
+pub accepted : (b : Back) (c : Corrected) (f s : List ℤ) → pushRefusal b c f s ≡ 0 → Accepted b c f s
 unfolding pushRefusal
-push-ok b c f s h =
+accepted b c f s h =
     let full = fullBack (joinedTo b (c .at)) in
     let past = leb (2 ^ 62) (c .at) in
     let good = backInRange b && ltb (c .j) 9296 in
@@ -123,11 +132,16 @@ push-ok b c f s h =
     by-test (good && fine)
     (λ g.
     let h7 : n7 ≡ 0 = sym (if-yes (good && fine) n7 6 g) ∙ h6 in
-    let r = ranged b (and-both (backInRange b) (ltb (c .j) 9296) (and-both good fine g .0) .0) in
+    let r = and-both (backInRange b) (ltb (c .j) 9296) (and-both good fine g .0) in
     by-test past (λ p. no 6 (sym (if-yes past 7 n8 p) ∙ h7))
     (λ p.
     let h8 : n8 ≡ 0 = sym (if-no past 7 n8 p) ∙ h7 in
-    by-test full (λ u. no 7 (sym (if-yes full 8 0 u) ∙ h8))
-    (λ u. record { last = r .last; taken = take-ok (joinedTo b (c .at)) c f s (w .0) (w .1) (joined-ranged b (c .at) (r .eq)) u })))
+    by-test full (λ u. no 7 (sym (if-yes full 8 0 u) ∙ h8)) (λ u. record { first = w .0; second = w .1; back = r .0; place = r .1; before = p; room = u })))
     (λ g. no 5 (sym (if-no (good && fine) n7 6 g) ∙ h6)))
     (λ o. no 1 (sym (if-no ones n6 2 o) ∙ h))
+
+pub push-ok : (b : Back) (c : Corrected) (f s : List ℤ) → pushRefusal b c f s ≡ 0 → PushOk b c f s
+push-ok b c f s h =
+    let a = accepted b c f s h in
+    let r = ranged b (a .back) in
+    record { last = r .last; taken = take-ok (joinedTo b (c .at)) c f s (a .first) (a .second) (joined-ranged b (c .at) (r .eq)) (a .room) }

@@ -8,14 +8,14 @@ use borrow.Author.Tests.{ltb-true, ltb-false}
 use lib.Dec.{ltb}
 use lib.IntN.{ℤ}
 use lib.ListN.{length}
-use Rattle.laws.specs.Choice.{if_then_else_, if-yes, if-no}
-use Rattle.laws.proofs.Tests.{by-test, and-both, never}
+use Rattle.laws.specs.Choice.{if_then_else_, if-no}
+use Rattle.laws.proofs.Tests.{by-test, and-both}
 use Rattle.phase.specs.declared.Corrected.{Corrected}
 use Rattle.eq.specs.Eq.{newEq, startedEq}
 use Rattle.frame_line.specs.declared.LastAt.the-variants.{Never, At}
 use Rattle.frame_line.specs.Line.{noMetas, metaOf, joined, moved, gapAt}
 use Rattle.frame_line.specs.Waiting.{waitingOf}
-use Rattle.frame_line.proofs.Theorems.{none-wait, joined-theorem, moved-theorem}
+use Rattle.frame_line.proofs.Theorems.{joined-theorem, moved-theorem}
 use Rattle.frame.specs.declared.Back.{Back}
 use Rattle.frame.specs.Align.{startedBack, newBack, restartedBack, joinedTo, takenBy, pushedBack}
 use Rattle.frame.specs.Stretch.{afterAll, givenBy, givenAll, unbroken, metasOf}
