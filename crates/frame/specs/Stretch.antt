@@ -1,4 +1,5 @@
 -- A stretch of corrected symbols, pushed one after the other: what comes out, and what it leaves.
+use Prim.Native.Nat.{ℕ, _+_}
 use mathlib.Core.Bool.{Bool, true, not, _&&_}
 use mathlib.Core.List.{List, [], _∷_, _++_}
 use lib.IntN.{ℤ}
@@ -10,7 +11,9 @@ use Rattle.frame_line.specs.Line.{metaOf, gapAt}
 use Rattle.frame.specs.declared.Back.{Back}
 use Rattle.frame.specs.declared.Aligned.{Aligned}
 use Rattle.frame.specs.declared.Aligned.the-variants.{Nothing, Given}
+use Rattle.laws.specs.Choice.{if_then_else_}
 use Rattle.frame.specs.Align.{pushedBack}
+use Rattle.frame.specs.Answers.{trainsBack}
 
 -- the back behind a stretch
 unfoldable pub afterAll : Back → List Corrected → List ℤ → List ℤ → Back
@@ -35,3 +38,8 @@ unbroken last (c ∷ cs) = not (gapAt last (c .at)) && unbroken (At (c .at)) cs
 unfoldable pub metasOf : List Corrected → List Meta
 metasOf [] = []
 metasOf (c ∷ cs) = metaOf c ∷ metasOf cs
+
+-- how many sync symbols were aligned on a full line with sums open
+unfoldable pub trainedIn : Back → List Corrected → List ℤ → List ℤ → ℕ
+trainedIn b [] f s = 0
+trainedIn b (c ∷ cs) f s = (if trainsBack b then 1 else 0) + trainedIn (pushedBack b c f s .back) cs f s
