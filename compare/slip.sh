@@ -1,5 +1,5 @@
 #!/bin/bash
-# slip.sh [fx] [sync] [phase] [demap] [eq]: shows that the comparison can fail. Links `compare` to a stand-in for the port's C functions, made of
+# slip.sh [fx] [sync] [phase] [demap] [eq] [frame]: shows that the comparison can fail. Links `compare` to a stand-in for the port's C functions, made of
 # the Rust itself, and gives it stand-ins for the replay programs, made of the models. Plants one slip after another in them:
 # each must be found, of fx in its function; no slip, no difference.
 set -eu
@@ -48,7 +48,7 @@ find_all() {
     echo "all $found planted slips of $part were found"
 }
 
-[ $# -gt 0 ] || set -- fx sync phase demap eq
+[ $# -gt 0 ] || set -- fx sync phase demap eq frame
 for part; do
     case $part in
         fx) find_all fx stand_in.rs 17 ;;
@@ -56,6 +56,7 @@ for part; do
         phase) find_all phase phase_stand_in.rs 25 ;;
         demap) find_all demap soft.rs 9 && find_all demap demap_stand_in.rs 23 ;;
         eq) find_all eq eq_stand_in.rs 26 ;;
-        *) echo "usage: slip.sh [fx] [sync] [phase] [demap] [eq]" >&2; exit 2 ;;
+        frame) find_all frame place.rs 4 ;;
+        *) echo "usage: slip.sh [fx] [sync] [phase] [demap] [eq] [frame]" >&2; exit 2 ;;
     esac
 done

@@ -54,7 +54,7 @@ const NUMBER_SLIPS: [(&str, &str, fn(i64, Answer) -> Answer); 3] = [
     ("gain_a_unit_up", "gain_of", |v, a| if v == 12_345 { Answer { x: a.x + 1, ..a } } else { a }),
 ];
 
-fn slip_named<T: Copy>(slips: &[(&'static str, &'static str, T)], function: &str) -> Option<T> {
+pub fn slip_named<T: Copy>(slips: &[(&'static str, &'static str, T)], function: &str) -> Option<T> {
     static NAME: OnceLock<Option<String>> = OnceLock::new();
     let name = NAME.get_or_init(|| std::env::var("SLIP").ok()).as_deref()?;
     slips.iter().find(|s| s.0 == name && s.1 == function).map(|s| s.2)

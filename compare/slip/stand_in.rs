@@ -1,6 +1,7 @@
 //! The port's C functions made of the Rust itself, with one slip planted by name (environment
 //! variable SLIP): shows that the comparison finds it. Without SLIP the stand-in is right.
 
+mod place;
 mod soft;
 
 use cases::fx::{Answer, FUNCTIONS};

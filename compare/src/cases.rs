@@ -2,6 +2,7 @@
 
 pub mod demap;
 pub mod eq;
+pub mod frame;
 pub mod fx;
 pub mod inputs;
 pub mod phase;

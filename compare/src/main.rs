@@ -1,9 +1,10 @@
-//! compare [fx] [sync] [phase] [demap] [eq] [--quick | --full] [--seed N]: the port beside the Rust, on the same inputs.
+//! compare [fx] [sync] [phase] [demap] [eq] [frame] [--quick | --full] [--seed N]: the port beside the Rust, on the same inputs.
 //! Without a part: all.
 
 mod check;
 mod demap_check;
 mod eq_check;
+mod frame_check;
 mod fx_check;
 mod phase_check;
 mod port;
@@ -22,6 +23,7 @@ struct Arguments {
     phase: bool,
     demap: bool,
     eq: bool,
+    frame: bool,
     /// Random calls a function of fx.
     calls: u64,
     size: Size,
@@ -29,7 +31,7 @@ struct Arguments {
 }
 
 fn usage() -> ! {
-    eprintln!("usage: compare [fx] [sync] [phase] [demap] [eq] [--quick | --full] [--seed NUMBER]");
+    eprintln!("usage: compare [fx] [sync] [phase] [demap] [eq] [frame] [--quick | --full] [--seed NUMBER]");
     std::process::exit(2)
 }
 
@@ -40,6 +42,7 @@ fn arguments() -> Arguments {
         phase: false,
         demap: false,
         eq: false,
+        frame: false,
         calls: RANDOM,
         size: Size::Short,
         seed: SEED,
@@ -52,14 +55,15 @@ fn arguments() -> Arguments {
             "phase" => a.phase = true,
             "demap" => a.demap = true,
             "eq" => a.eq = true,
+            "frame" => a.frame = true,
             "--quick" => a.calls = QUICK,
             "--full" => a.size = Size::Full,
             "--seed" => a.seed = words.next().and_then(|n| n.parse().ok()).unwrap_or_else(|| usage()),
             _ => usage(),
         }
     }
-    if !(a.fx || a.sync || a.phase || a.demap || a.eq) {
-        (a.fx, a.sync, a.phase, a.demap, a.eq) = (true, true, true, true, true);
+    if !(a.fx || a.sync || a.phase || a.demap || a.eq || a.frame) {
+        (a.fx, a.sync, a.phase, a.demap, a.eq, a.frame) = (true, true, true, true, true, true);
     }
     a
 }
@@ -80,5 +84,8 @@ fn main() {
     }
     if a.eq {
         eq_check::compare(a.size, a.seed);
+    }
+    if a.frame {
+        frame_check::compare();
     }
 }

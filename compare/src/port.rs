@@ -50,6 +50,7 @@ extern "C" {
     pub fn sv_div_round(a: i64, b: i64) -> Number;
     fn sv_rotate(phase: u32, freq: i32, xi: i8, xq: i8, table: *const i16, len: usize) -> Rotation;
     fn sv_gain_of(amp: i64) -> Number;
+    fn sv_part(j: usize) -> Numbers;
     fn sv_scale_of(n0: i64) -> Number;
     fn sv_demap(
         yi: i16,
@@ -88,6 +89,10 @@ pub fn demap(y: [i16; 2], points: &[i16], bits: usize, k: i64, out: &mut [i8]) -
 
 pub fn scale_of(n0: i64) -> Answer {
     unsafe { sv_scale_of(n0) }.into()
+}
+
+pub fn part(j: usize) -> Answer {
+    unsafe { sv_part(j) }.into()
 }
 
 pub fn gain_of(amp: i64) -> Answer {
