@@ -29,7 +29,7 @@ startedBack e = record { eq = e; metas = noMetas; last = Never }
 unfoldable pub newBack : Back
 newBack = startedBack newEq
 
--- "restarts equaliser and alignment": open sums are dropped, the taps stay
+-- "restarts sync, carrier, phase, equaliser and alignment": here the last two; open sums are dropped, the taps stay
 unfoldable pub restartedBack : Back → Back
 restartedBack b = startedBack (startedEq (b .eq .taps) (b .eq .from))
 

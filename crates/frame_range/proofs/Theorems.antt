@@ -191,7 +191,7 @@ pushed-coherent-back b c f s k y h =
     let j : leb (c .j) 9295 ≡ true = le-leb (c .j) 9295 (omega (arith, ltb-true (c .j) 9296 (a .place))) in
     taken-coherent (joinedTo b (c .at)) c f s (joined-coherent b (c .at) k) y (rw (t, j)) t (push-ok b c f s h .taken)
 
--- ---- EVERY CALL KEEPS IT, a refused one too; from new on, over any list of symbols
+-- ---- EVERY PUSH KEEPS IT, a refused one too; over any list of pushes with the same words
 pub push-keeps : (b : Back) (c : Corrected) (f s : List ℤ) → CoherentBack b → Short c → CoherentBack (pushAnswer b c f s .back)
 unfolding pushAnswer if_then_else_
 push-keeps b c f s k y =
