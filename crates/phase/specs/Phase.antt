@@ -29,18 +29,24 @@ gainOf amp = divRound (pos 4555500750) (if ltZ amp (pos 64) then pos 64 else amp
 unfoldable pub begunOf : Head → SlotPhase
 begunOf h = Holds (record { head = h; count = 0 })
 
--- a symbol is counted up to the 9,296th
-unfoldable pub countedOf : Held → Held
-countedOf x = if ltb (x .count) 9296 then record { head = x .head; count = x .count + 1 } else x
+-- a symbol is counted up to the n-th: 9,296
+unfoldable pub countedIn : ℕ → Held → Held
+countedIn n x = if ltb (x .count) n then record { head = x .head; count = x .count + 1 } else x
 
-unfoldable pub pushedOf : SlotPhase → SlotPhase
-pushedOf Idle = Idle
-pushedOf (Holds x) = Holds (countedOf x)
+unfoldable pub pushedIn : ℕ → SlotPhase → SlotPhase
+pushedIn n Idle = Idle
+pushedIn n (Holds x) = Holds (countedIn n x)
 
 -- .. and written at its place: entries 2j and 2j + 1 for symbol j; all else stays
-unfoldable pub storedOf : SlotPhase → ℤ → ℤ → List ℤ → List ℤ
-storedOf Idle i q store = store
-storedOf (Holds x) i q store = if ltb (x .count) 9296 then set (set store (2 * x .count) i) (2 * x .count + 1) q else store
+unfoldable pub storedIn : ℕ → SlotPhase → ℤ → ℤ → List ℤ → List ℤ
+storedIn n Idle i q store = store
+storedIn n (Holds x) i q store = if ltb (x .count) n then set (set store (2 * x .count) i) (2 * x .count + 1) q else store
+
+abbrev pub pushedOf : SlotPhase → SlotPhase
+pushedOf s = pushedIn 9296 s
+
+abbrev pub storedOf : SlotPhase → ℤ → ℤ → List ℤ → List ℤ
+storedOf s i q store = storedIn 9296 s i q store
 
 -- ---- the slot to correct
 -- a difference over the slot as a step for each symbol, with 16 fraction bits: 14,784,741 is 2^37 / 9,296, rounded
@@ -57,10 +63,13 @@ wholeOf a b =
       gamma = perSymbol (gainOf (b .amp) -ℤ gainOf (a .amp));
     }
 
--- the slot that a head completes
-unfoldable pub dueOf : SlotPhase → Head → Due
-dueOf Idle h = Nothing
-dueOf (Holds x) h = if eqb (x .count) 9296 then Slot (wholeOf (x .head) h) else Nothing
+-- the slot that a head completes, if its n symbols came
+unfoldable pub dueIn : ℕ → SlotPhase → Head → Due
+dueIn n Idle h = Nothing
+dueIn n (Holds x) h = if eqb (x .count) n then Slot (wholeOf (x .head) h) else Nothing
+
+abbrev pub dueOf : SlotPhase → Head → Due
+dueOf s h = dueIn 9296 s h
 
 -- ---- a corrected symbol
 -- phase and gain at symbol j, between the two heads

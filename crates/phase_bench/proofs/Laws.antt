@@ -16,7 +16,7 @@ use Rattle.laws.proofs.Tests.{if-either, if-both, and-both}
 use Rattle.laws.specs.Choice.{if_then_else_}
 use Rattle.phase.proofs.Laws.{head-taken, phase-ok, whole-ok}
 use Rattle.phase.specs.Answers.{headRefusal, headAnswer}
-use Rattle.phase.specs.Phase.{begunOf, wholeOf, dueOf, correctedOf}
+use Rattle.phase.specs.Phase.{begunOf, wholeOf, dueOf, correctedOf, dueIn}
 use Rattle.phase.specs.Ranges.{HeadOk}
 use Rattle.phase.specs.declared.Due.the-variants.{Nothing, Slot}
 use Rattle.phase.specs.declared.Headed.{Headed}
@@ -49,7 +49,7 @@ whole-due a b ha hb room = (whole-ok (wholeOf a b) (whole-in-range a b ha hb), p
     place a b h = h
 
 pub due-ok : (a b : Head) → a .at + 9296 ≤ 2 ^ 62 → DueOk (headAnswer (Holds (record { head = a; count = 9296 })) b .due)
-unfolding headAnswer dueOf
+unfolding headAnswer dueIn
 due-ok a b room =
     let s = Holds (record { head = a; count = 9296 }) in
     let n = headRefusal s b in

@@ -16,7 +16,7 @@ use Rattle.laws.proofs.Tests.{by-test, if-either, if-both, never}
 use Rattle.laws.specs.Choice.{if_then_else_, if-yes, if-no}
 use Rattle.phase.proofs.Laws.{push-taken, head-taken}
 use Rattle.phase.specs.Answers.{heldPast, pastEnd, placePast, pushRefusal, pushAnswer, pushStore, headRefusal, headAnswer, restartAnswer, correctRefusal, correctAnswer}
-use Rattle.phase.specs.Phase.{begunOf, countedOf, pushedOf, storedOf, wholeOf, dueOf, symbolAt, correctedOf}
+use Rattle.phase.specs.Phase.{begunOf, pushedOf, storedOf, wholeOf, dueOf, symbolAt, correctedOf, storedIn, pushedIn, dueIn, countedIn}
 use Rattle.phase.specs.Ranges.{heldInRange, phaseInRange, wholeInRange, HeadOk, WholeOk}
 use Rattle.phase.specs.declared.Answered.the-variants.{Given, Refused}
 use Rattle.phase.specs.declared.Due.{Due}
@@ -43,7 +43,7 @@ in-range (Holds x) h =
 
 -- an accepted symbol
 pub pushed-coherent : (s : SlotPhase) → Coherent s → pastEnd s ≡ false → Coherent (pushedOf s)
-unfolding pushedOf pastEnd countedOf heldPast
+unfolding pushedIn pastEnd countedIn heldPast
 pushed-coherent Idle h e = tt
 pushed-coherent (Holds x) h e =
     if-either HeldSound (ltb (x .count) 9296) (record { head = x .head; count = x .count + 1 }) x
@@ -126,7 +126,7 @@ pub due-given : (s : SlotPhase) (h : Head) (w : WholeSlot) (j : ℕ) (table stor
     length table ≡ 1024 →
     length store ≡ 18592 →
     Givable w j table store
-unfolding dueOf
+unfolding dueIn
 due-given Idle h w j table store c r d k t u = absurd (never (sym (ap isSlot d)))
 due-given (Holds x) h w j table store c r d k t u =
     let a = head-taken (Holds x) h r in
@@ -142,13 +142,13 @@ due-given (Holds x) h w j table store c r d k t u =
 -- one symbol: counted and placed up to the 9,296th, then ignored
 taken-step : (h : Head) (c : ℕ) (x : Symbol) (store : List ℤ) → c < 9296 →
     at (pushedOf (held h c)) (storedOf (held h c) (x .i) (x .q) store) ≡ at (held h (c + 1)) (set (set store (2 * c) (x .i)) (2 * c + 1) (x .q))
-unfolding pushedOf storedOf countedOf
+unfolding pushedIn storedIn countedIn
 taken-step h c x store l =
     let t = lt-ltb c 9296 l in
     ap₂ at (ap Holds (if-yes (ltb c 9296) (record { head = h; count = c + 1 }) (record { head = h; count = c }) t)) (if-yes (ltb c 9296) (set (set store (2 * c) (x .i)) (2 * c + 1) (x .q)) store t)
 
 ignored-step : (h : Head) (c : ℕ) (x : Symbol) (store : List ℤ) → 9296 ≤ c → at (pushedOf (held h c)) (storedOf (held h c) (x .i) (x .q) store) ≡ at (held h c) store
-unfolding pushedOf storedOf countedOf
+unfolding pushedIn storedIn countedIn
 ignored-step h c x store l =
     let t = le-ltb c 9296 l in
     ap₂ at (ap Holds (if-no (ltb c 9296) (record { head = h; count = c + 1 }) (record { head = h; count = c }) t)) (if-no (ltb c 9296) (set (set store (2 * c) (x .i)) (2 * c + 1) (x .q)) store t)
@@ -228,7 +228,7 @@ agree-held c x a b l ea eb h k p =
     rw e (wa .1 ∙ sym (wb .1))))
 
 agree-pushed : (s : SlotPhase) (x : Symbol) (a b : List ℤ) → length a ≡ 18592 → length b ≡ 18592 → AgreeOn s a b → AgreeOn (pushedOf s) (storedOf s (x .i) (x .q) a) (storedOf s (x .i) (x .q) b)
-unfolding pushedOf storedOf countedOf
+unfolding pushedIn storedIn countedIn
 agree-pushed Idle x a b ea eb h = tt
 agree-pushed (Holds y) x a b ea eb h =
     let c = y .count in
@@ -249,7 +249,7 @@ alike-idle : (a b : List ℤ) → length a ≡ 18592 → length b ≡ 18592 → 
 alike-idle a b ea eb = record { phases = refl; agree = tt; first = ea; second = eb }
 
 length-stored : (s : SlotPhase) (x : Symbol) (a : List ℤ) → length (storedOf s (x .i) (x .q) a) ≡ length a
-unfolding storedOf
+unfolding storedIn
 length-stored Idle x a = refl
 length-stored (Holds y) x a =
     if-both (λ (l : List ℤ). length l ≡ length a) (ltb (y .count) 9296) (set (set a (2 * y .count) (x .i)) (2 * y .count + 1) (x .q)) a
@@ -296,7 +296,7 @@ pub stores-alike : (a b : List ℤ) (cs : List Call) → length a ≡ 18592 → 
 stores-alike a b cs ea eb = alike-all (at Idle a) (at Idle b) cs (alike-idle a b ea eb)
 
 pub corrected-alike : (s : SlotPhase) (h : Head) (w : WholeSlot) (j : ℕ) (table a b : List ℤ) → AgreeOn s a b → dueOf s h ≡ Slot w → j < 9296 → correctedOf w table a j ≡ correctedOf w table b j
-unfolding dueOf correctedOf symbolAt
+unfolding dueIn correctedOf symbolAt
 corrected-alike Idle h w j table a b g d k = absurd (never (sym (ap isSlot d)))
 corrected-alike (Holds x) h w j table a b g d k =
     by-test (eqb (x .count) 9296)

@@ -6,7 +6,7 @@ use borrow.Author.Tests.{lt-ltb, le-ltb}
 use lib.ListN.{length-set}
 use mir.Facts.{toZ-ofZ}
 use Rattle.laws.specs.Choice.{cases, if-yes, if-no}
-use Rattle.phase.specs.Phase.{pushedOf, storedOf, countedOf}
+use Rattle.phase.specs.Phase.{pushedIn, storedIn, countedIn}
 use Rattle.phase.specs.declared.SlotPhase.the-variants.{Holds}
 use Rattle.phase.proofs.ranged.pushed.Statement.{statement}
 use Rattle.phase.proofs.ranged.pushed.Tie as tie
@@ -42,21 +42,21 @@ add-t16 : tie.Need-add-t16
 add-t16 c = search needs
 
 returns : tie.Need-returns
-unfolding pushedOf storedOf
+unfolding pushedIn storedIn
 returns c = search cases
 
 same-length : tie.Need-same-length
 same-length c = search needs
 
 returns-2 : tie.Need-returns-2
-unfolding pushedOf storedOf countedOf
+unfolding pushedIn storedIn countedIn
 returns-2 c =
     let a = c .before .before .before .before .before in
     let t = lt-ltb _ _ (c .if1 .taken) in
     rw (c .before .before .before .s .given .1, toZ-ofZ (a .fits .i), toZ-ofZ (a .fits .q)) (ap Holds (sym (if-yes _ _ _ t)), sym (if-yes _ _ _ t))
 
 returns-3 : tie.Need-returns-3
-unfolding pushedOf storedOf countedOf
+unfolding pushedIn storedIn countedIn
 returns-3 c =
     let t = le-ltb _ _ (c .if1 .left) in
     rw (c .before .before .before .s .given .1) (ap Holds (sym (if-no _ _ _ t)), sym (if-no _ _ _ t))
