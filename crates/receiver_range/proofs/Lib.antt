@@ -1,0 +1,1 @@
+-- The joint invariant is kept by every call.
