@@ -1,0 +1,197 @@
+-- DEMAND 3. For every list of a receiver's calls from a new one on, and for every loss in it. docs/GUARANTEE.md has it sentence by sentence beside
+-- the order and document 01.
+use Prim.Native.Nat.{ℕ, suc, _+_, _-_, _*_, _^_, _≤_, _<_}
+use mathlib.Core.Bool.{Bool, true, false}
+use mathlib.Core.List.{List, [], _∷_, _++_}
+use mathlib.Core.Logic.{_⊎_}
+use mathlib.Core.Path.{_≡_}
+use lib.Dec.{eqb}
+use lib.IntN.{ℤ, pos, natAbs}
+use lib.ListN.{length, getD, replicate}
+use lib.Signed.{_<ℤ_}
+use Rattle.laws.specs.Choice.{if_then_else_}
+use Rattle.sync_step.specs.declared.Event.{Event}
+use Rattle.sync_step.specs.declared.Event.the-variants.{Nothing, Head, Period, Lost}
+use Rattle.sync_step.specs.declared.Events.{Events}
+use Rattle.sync_step.specs.declared.SyncStats.{SyncStats}
+use Rattle.sync_step.specs.Step.{isLocked, offsetOf}
+use Rattle.sync_history.specs.History.{LockOn, LockBy, LossBy, Premise}
+use Rattle.sync_tie.specs.Pushes.{Push, sizeAt}
+use Rattle.sync_tie.specs.Claims.{anyHead, HeadAt}
+use Rattle.demap.specs.Demap.{Nearest, bitOf, softBits, labelMetric}
+use Rattle.demap.specs.Answers.{demapRefusal, demapBuffer}
+use Rattle.frame_map.specs.declared.SlotPart.the-variants.{Main}
+use Rattle.frame_map.specs.Map.{partOf}
+use Rattle.frame.specs.declared.AlignedSymbol.{AlignedSymbol}
+use Rattle.receiver.specs.declared.Points.{Points}
+use Rattle.receiver.specs.declared.Receiver.{Receiver}
+use Rattle.receiver.specs.declared.Kept.{Kept}
+use Rattle.receiver.specs.declared.Runs.{Runs}
+use Rattle.receiver.specs.Started.{started, newKept}
+use Rattle.receiver.specs.Slot.{pointsFor, softAll, writtenOn}
+use Rattle.receiver.specs.Symbol.{Input, Lent, aligned}
+use Rattle.receiver.specs.Answers.{noRuns, newAnswer, newAcc}
+use Rattle.guarantee.specs.Calls.{Accumulators, SlotStore, Call, System, Told, CallsFit, begins, lentTo, afterCall, afterCalls, toldBy, toldAll}
+use Rattle.guarantee.specs.Calls.{symbol, points, taps, opens, ends, restarts}
+use Rattle.guarantee.specs.History.{History, beginsWith, nextIn, pushOf, withSymbol, keptIn, keptOver, refusalIn, eventsIn, losesBy, happens, happenAll, endsWith, countOf}
+
+-- ---- words
+-- a loss is told with this restart position
+abbrev pub LostAt : ℕ → Event → Type 0
+LostAt at Nothing = ⊥
+LostAt at (Head g) = ⊥
+LostAt at (Period p) = ⊥
+LostAt at (Lost to) = to ≡ at
+
+pub data Among (P : Event → Type 0) (es : Events) : Type 0 where
+  in-first : P (es .first) → Among P es
+  in-second : P (es .second) → Among P es
+  in-third : P (es .third) → Among P es
+
+-- the event is a period's end with these figures
+abbrev pub IsPeriod : SyncStats → Event → Type 0
+IsPeriod p Nothing = ⊥
+IsPeriod p (Head g) = ⊥
+IsPeriod p (Period q) = q ≡ p
+IsPeriod p (Lost to) = ⊥
+
+-- the soft buffer that a call was lent
+abbrev pub softOf : Call → List ℤ
+softOf (symbol x a b soft) = soft
+softOf (points bits ps k) = []
+softOf (taps ts frame) = []
+softOf (opens frame) = []
+softOf ends = []
+softOf (restarts at a) = []
+
+-- "no soft bit: none counted, buffer unchanged"
+pub record NoSoft (c : Call) (t : Told) : Type 0 where
+  pub runs : t .runs ≡ noRuns
+  pub soft : t .soft ≡ softOf c
+
+-- ---- one soft bit: value v of the bit at place j, most significant first, of a symbol demapped with 2^bits points
+pub record BitTrue (bits : ℕ) (points : List ℤ) (yi yq : ℤ) (j : ℕ) (v : ℤ) : Type 0 where
+  -- "Each soft bit is within ±127"
+  pub within : natAbs v ≤ 127
+  -- "a positive one means that every nearest point has that bit 0, a negative one that every nearest has 1"
+  pub positive : pos 0 <ℤ v → (l : ℕ) → Nearest yi yq points (2 ^ bits) l → bitOf (bits - 1 - j) l ≡ 0
+  pub negative : v <ℤ pos 0 → (l : ℕ) → Nearest yi yq points (2 ^ bits) l → bitOf (bits - 1 - j) l ≡ 1
+
+pub data In (a : AlignedSymbol) : List AlignedSymbol → Type 0 where
+  here : {rest : List AlignedSymbol} → In a (a ∷ rest)
+  there : {b : AlignedSymbol} {rest : List AlignedSymbol} → In a rest → In a (b ∷ rest)
+
+-- value i of a call's soft values is a bit of a main symbol among its aligned ones, and true
+pub record SoftTrue (p : Points) (given : List AlignedSymbol) (i : ℕ) : Type 0 where
+  pub of : AlignedSymbol
+  pub among : In of given
+  pub main : ℕ
+  pub is-main : partOf (of .meta .j) ≡ Main main
+  pub place : ℕ
+  pub below : place < pointsFor p (of .meta) .bits
+  pub true-of : BitTrue (pointsFor p (of .meta) .bits) (pointsFor p (of .meta) .points) (of .z .i) (of .z .q) place (getD (softAll p given) i (pos 0))
+
+-- ---- the stretch that a call belongs to: its accepted symbols, this one too
+unfoldable pub stretchWith : History → Call → List Push
+stretchWith h (symbol x a b soft) = if eqb (refusalIn h (symbol x a b soft)) 0 then withSymbol h x else h .pushes
+stretchWith h (points bits ps k) = h .pushes
+stretchWith h (taps ts frame) = h .pushes
+stretchWith h (opens frame) = h .pushes
+stretchWith h ends = h .pushes
+stretchWith h (restarts at a) = h .pushes
+
+-- the kept values "as the losing call leaves them"
+unfoldable pub keptAfter : History → Call → Kept
+keptAfter h (symbol x a b soft) = keptOver h x
+keptAfter h (points bits ps k) = keptIn h
+keptAfter h (taps ts frame) = keptIn h
+keptAfter h (opens frame) = keptIn h
+keptAfter h ends = keptIn h
+keptAfter h (restarts at a) = keptIn h
+
+-- ---- what is claimed of a call c: h is the history before it, s the receiver with its stores, t what the call tells, rest the calls after it
+module _ (h : History) (s : System) (c : Call) (t : Told) (rest : List Call) where
+  -- "the receiver's answers are those that the definitions give": each refusal number, the events in order, and how many symbols ended sums counted
+  pub record Answers : Type 0 where
+    pub refusal : t .refusal ≡ refusalIn h c
+    pub events : t .events ≡ eventsIn h c
+    pub ended : c ≡ ends → (t .ended ≡ endsWith (h .sums)) × (t .sums .count ≡ countOf (h .sums))
+
+  -- losses are told exactly where the history has them, with their restart positions
+  pub record Losses : Type 0 where
+    pub told : losesBy h c ≡ true → Among (LostAt (nextIn h + 1)) (t .events)
+    pub only : (at : ℕ) → Among (LostAt at) (t .events) → (losesBy h c ≡ true) × (at ≡ nextIn h + 1)
+    -- "from the next call on, its answers equal those of a new receiver started at that loss's restart position with the kept values of 01 and given
+    -- the same calls", whatever that one's slot store holds
+    pub like-new : losesBy h c ≡ true → (store : List ℤ) → length store ≡ 18592 →
+        toldAll (afterCall s c) rest ≡ toldAll (begins (nextIn h + 1) (keptAfter h c) store) rest
+
+  -- the stretch, and how many symbols it had before
+  abbrev pub ps : List Push
+  ps = stretchWith h c
+
+  abbrev pub m : ℕ
+  m = length (h .pushes)
+
+  -- "no head or soft bit comes before lock": only after a lock on an earlier symbol
+  pub record BeforeLock : Type 0 where
+    pub heads : anyHead (t .events) ≡ true → (p : ℕ) × LockBy 9296 (sizeAt ps) p m
+    pub soft : ((p : ℕ) → ¬ LockBy 9296 (sizeAt ps) p m) → NoSoft c t
+    -- "A stretch of fewer than 37,207 has no lock"
+    pub few : length ps < 37207 → (p : ℕ) → ¬ LockBy 9296 (sizeAt ps) p (length ps)
+
+  -- "the receiver is locked after it and not before": as its own lock has it, and as a period's end tells
+  pub record LockTold : Type 0 where
+    pub locked : losesBy h c ≡ false → (p : ℕ) → LockBy 9296 (sizeAt ps) p (length ps) →
+        (isLocked (afterCall s c .receiver .front .sync .run .lock) ≡ true) × (offsetOf (afterCall s c .receiver .front .sync .run .lock) ≡ p)
+    pub locked-only : losesBy h c ≡ false → isLocked (afterCall s c .receiver .front .sync .run .lock) ≡ true →
+        LockBy 9296 (sizeAt ps) (offsetOf (afterCall s c .receiver .front .sync .run .lock)) (length ps)
+    pub period : losesBy h c ≡ false → (q : SyncStats) → Among (IsPeriod q) (t .events) →
+        (q .locked ≡ isLocked (afterCall s c .receiver .front .sync .run .lock)) × (q .offset ≡ offsetOf (afterCall s c .receiver .front .sync .run .lock))
+
+  -- "Whenever, in every period of 9,296 after the loss, the rotated symbols have correlation size at least P at one fixed position and at most Q at all
+  -- others, P ≥ 4Q + 8"
+  pub record Relocks (place : ℕ) : Type 0 where
+    -- "lock is found exactly on the 37,207th accepted symbol after the loss"; `few` above: "and no earlier"
+    pub falls : 37207 ≤ length ps → LockOn 9296 (sizeAt ps) place 37207
+    -- the lock is not lost by periods
+    pub lasts : (k : ℕ) → k ≤ length ps → ¬ LossBy 9296 (sizeAt ps) k
+    -- "from the second later reading of that position on, every reading gives a head until the next loss or restart", of that very window. Readings
+    -- of the place stand in period 4, 5, ..: the second in period 5
+    pub heads : losesBy h c ≡ false → length ps ≡ suc m → (j : ℕ) → m ≡ (5 + j) * 9296 + place + 23 →
+        Among (HeadAt (h .base + ((5 + j) * 9296 + place))) (t .events)
+
+  -- the soft bits of an accepted symbol stand in order from the buffer's start, are of its aligned symbols with the points of the history, and true
+  pub record SoftBits (x : Input) (l : Lent) : Type 0 where
+    pub stand : t .soft ≡ writtenOn (softAll (h .points) (aligned 9296 (s .receiver) x l)) (l .soft)
+    pub fit : length (softAll (h .points) (aligned 9296 (s .receiver) x l)) ≤ 44880
+    pub are-true : (i : ℕ) → i < length (softAll (h .points) (aligned 9296 (s .receiver) x l)) → SoftTrue (h .points) (aligned 9296 (s .receiver) x l) i
+
+  pub record CallClaims : Type 0 where
+    pub answers : Answers
+    pub losses : Losses
+    pub before-lock : BeforeLock
+    pub lock : LockTold
+    pub relocks : (place P Q : ℕ) → Premise 9296 place P Q (sizeAt ps) (length ps - 23) → Relocks place
+    -- a refused symbol writes none
+    pub soft-bits : (x : Input) (a : Accumulators) (b : SlotStore) (soft : List ℤ) → c ≡ symbol x a b soft → refusalIn h c ≡ 0 → SoftBits x (lentTo s a b soft)
+    pub refused : (refusalIn h c ≡ 0 → ⊥) → NoSoft c t
+
+-- ---- THE CLAIM
+pub record Demand3 (at : ℕ) (step : ℤ) (store : List ℤ) (cs : List Call) : Type 0 where
+  -- an accepted new receiver is one that begins there
+  pub new : (acc : List ℕ) → length acc ≡ 9296 →
+      (newAnswer at step acc ≡ record { refusal = 0; receiver = started at (newKept step) }) × (newAcc acc ≡ replicate 9296 0)
+  -- every call of the list
+  pub each : (before : List Call) (c : Call) (rest : List Call) → cs ≡ before ++ (c ∷ rest) →
+      let h = happenAll (beginsWith at (newKept step)) before in
+      let s = afterCalls (begins at (newKept step) store) before in
+      CallClaims h s c (toldBy s c) rest
+
+abbrev pub DemandClaim : Type 0
+DemandClaim = (at : ℕ) (step : ℤ) (store : List ℤ) (cs : List Call) → length store ≡ 18592 → CallsFit cs → Demand3 at step store cs
+
+-- "soft bits of a single demap are meant too"
+abbrev pub SingleClaim : Type 0
+SingleClaim = (yi yq : ℤ) (points : List ℤ) (bits : ℕ) (k : ℤ) (out : List ℤ) → demapRefusal bits (length points) k (length out) ≡ 0 →
+    (j : ℕ) → j < bits → BitTrue bits points yi yq j (getD (demapBuffer yi yq points bits k out) j (pos 0))
