@@ -1,1 +1,3 @@
 -- Demand 3, proved.
+pub mod Lost
+pub mod Prefix

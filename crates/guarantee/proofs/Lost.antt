@@ -1,0 +1,193 @@
+-- A loss is told exactly where the pushes have one, with the position of the next symbol. Assumes nothing.
+use Prim.Native.Nat.{ℕ, _+_, _-_, _<_, _≤_, suc}
+use Rattle.laws.proofs.Tests.{by-test, if-both, if-either, never}
+use Rattle.laws.specs.Choice.{if-no, if-yes, if_then_else_}
+use Rattle.sync_corr.specs.declared.Corr.{Corr}
+use Rattle.sync_heads.specs.Frames.{fsyncCourse}
+use Rattle.sync_heads.specs.Heads.{bothHeads, firstOf, fsyncOf, fsyncTaken, headOf, isFsync, knownOf, readOf, ssyncOf, ssyncTaken}
+use Rattle.sync_heads.specs.Words.{marginOf, saidOf}
+use Rattle.sync_heads.specs.declared.Course.{Course}
+use Rattle.sync_heads.specs.declared.Headed.{Headed}
+use Rattle.sync_heads.specs.declared.Headed.the-variants.{Nothing as NoHead, One as OneHead}
+use Rattle.sync_heads.specs.declared.Reading.{Reading}
+use Rattle.sync_heads.specs.declared.Record.{Record}
+use Rattle.sync_heads.specs.declared.Stage.{Stage}
+use Rattle.sync_heads.specs.declared.Stage.the-variants.{Before, First, Known}
+use Rattle.sync_heads.specs.declared.Taken.{Taken}
+use Rattle.sync_heads.specs.declared.Told.{Told}
+use Rattle.sync_step.specs.Events.{eventOf, headsOf, isNothing, noEvents, thenOf}
+use Rattle.sync_step.specs.Step.{startedOf, statsOf}
+use Rattle.sync_step.specs.declared.Event.{Event}
+use Rattle.sync_step.specs.declared.Event.the-variants.{Nothing, Head, Period, Lost}
+use Rattle.sync_step.specs.declared.Events.{Events}
+use Rattle.sync_step.specs.declared.SyncStats.{SyncStats}
+use Rattle.sync_tie.specs.Pushes.{Push}
+use Rattle.sync_tie.specs.Story.{Heard, endsAt, heardTo, losesAt, periodLoses, readingAt, readsAt, statsAt, takenAt, tells, toldAt}
+use Rattle.receiver.specs.Heads.{isLost, losesIn}
+use Rattle.guarantee.specs.Demand.{LostAt, Among, in-first, in-second, in-third}
+use borrow.Author.Tests.{ltb-false}
+use lib.Dec.{ltb}
+use lib.Signed.{ltZ}
+use mathlib.Core.Bool.{Bool, false, true, _||_}
+use mathlib.Core.List.{List}
+use mathlib.Core.Path.{_∙_, _≡_, ap, refl, sym}
+use native.Mathlib.Omega.{arith}
+
+-- ---- a losing reading tells no second head
+one-head : (n : ℕ) (c : Course) (r : Reading) (last : Corr) → fsyncOf n c r last .lost ≡ true → fsyncOf n c r last .head ≡ NoHead
+unfolding fsyncOf
+one-head n c r last =
+    let w = saidOf false (r .both) last in
+    let m = fsyncCourse n (isFsync (w .word)) c (r .at) in
+    let a : Told = record { lost = true; course = m .course; head = NoHead } in
+    let b : Told = record { lost = false; course = m .course; head = OneHead (headOf w (r .at) (m .course .slot)) } in
+    if-both (λ (t : Told). t .lost ≡ true → t .head ≡ NoHead) (m .lost) a b (λ e. refl) (λ e. absurd (never (sym e)))
+
+abbrev Alone : Taken → Type 0
+Alone k = k .lost ≡ true → k .second ≡ NoHead
+
+pub lost-alone : (n : ℕ) (s : Stage) (c : Course) (r : Reading) → Alone (readOf n s c r)
+unfolding readOf firstOf knownOf bothHeads ssyncTaken fsyncTaken
+lost-alone n Before c r = λ e. refl
+lost-alone n (First z) c r =
+    if-both Alone (ltZ (marginOf (z .both)) (marginOf (r .both))) (ssyncTaken true c r) (bothHeads n z c r) (λ e. refl) (λ e. one-head n (ssyncOf c z .course) r (z .both .s) e)
+lost-alone n (Known p) c r =
+    if-both Alone (p .due) (ssyncTaken (p .odd) c r) (fsyncTaken n (p .odd) (p .last) c r) (λ e. refl) (λ e. refl)
+
+-- ---- events that hold no loss, and one more
+pub record Quiet (es : Events) : Type 0 where
+  pub first : isLost (es .first) ≡ false
+  pub second : isLost (es .second) ≡ false
+  pub third : es .third ≡ Nothing
+
+head-quiet : (k : Headed) → isLost (eventOf k) ≡ false
+unfolding isLost eventOf
+head-quiet NoHead = refl
+head-quiet (OneHead g) = refl
+
+pub heads-quiet : (k : Taken) → Quiet (headsOf k)
+unfolding headsOf
+heads-quiet k = record { first = head-quiet (k .first); second = head-quiet (k .second); third = refl }
+
+quiet-none : (es : Events) → Quiet es → losesIn es ≡ false
+unfolding losesIn isLost
+quiet-none es q = rw (q .first, q .second, q .third)
+
+then-quiet : (es : Events) (e : Event) → isLost e ≡ false → Quiet es → losesIn (thenOf es e) ≡ false
+unfolding thenOf losesIn isLost
+then-quiet es e k q =
+    let a : Events = record { first = e; second = es .second; third = Nothing } in
+    let b : Events = record { first = es .first; second = e; third = Nothing } in
+    let d : Events = record { first = es .first; second = es .second; third = e } in
+    if-both (λ (u : Events). losesIn u ≡ false) (isNothing (es .first)) a (if isNothing (es .second) then b else d)
+    (rw (k, q .second))
+    (if-both (λ (u : Events). losesIn u ≡ false) (isNothing (es .second)) b d (rw (q .first, k)) (rw (q .first, q .second, k)))
+
+-- a loss behind them
+pub record Tells (at : ℕ) (es : Events) : Type 0 where
+  pub loses : losesIn es ≡ true
+  pub there : Among (LostAt at) es
+  pub only : (to : ℕ) → Among (LostAt to) es → to ≡ at
+
+quiet-at : (to : ℕ) (e : Event) → isLost e ≡ false → LostAt to e → ⊥
+unfolding isLost
+quiet-at to Nothing k p = p
+quiet-at to (Head g) k p = p
+quiet-at to (Period q) k p = p
+quiet-at to (Lost at) k p = never k
+
+-- .. in the first place, the second or the third, with no other
+only-first : (at to : ℕ) (e g : Event) → isLost e ≡ false → isLost g ≡ false → Among (LostAt to) (record { first = Lost at; second = e; third = g }) → to ≡ at
+only-first at to e g k q (in-first p) = sym p
+only-first at to e g k q (in-second p) = absurd (quiet-at to e k p)
+only-first at to e g k q (in-third p) = absurd (quiet-at to g q p)
+
+only-second : (at to : ℕ) (e g : Event) → isLost e ≡ false → isLost g ≡ false → Among (LostAt to) (record { first = e; second = Lost at; third = g }) → to ≡ at
+only-second at to e g k q (in-first p) = absurd (quiet-at to e k p)
+only-second at to e g k q (in-second p) = sym p
+only-second at to e g k q (in-third p) = absurd (quiet-at to g q p)
+
+only-third : (at to : ℕ) (e g : Event) → isLost e ≡ false → isLost g ≡ false → Among (LostAt to) (record { first = e; second = g; third = Lost at }) → to ≡ at
+only-third at to e g k q (in-first p) = absurd (quiet-at to e k p)
+only-third at to e g k q (in-second p) = absurd (quiet-at to g q p)
+only-third at to e g k q (in-third p) = sym p
+
+lost-first : (at : ℕ) (e g : Event) → isLost e ≡ false → isLost g ≡ false → Tells at (record { first = Lost at; second = e; third = g })
+unfolding losesIn isLost
+lost-first at e g k q = record { loses = refl; there = in-first refl; only = λ to w. only-first at to e g k q w }
+
+lost-second : (at : ℕ) (e g : Event) → isLost e ≡ false → isLost g ≡ false → Tells at (record { first = e; second = Lost at; third = g })
+unfolding losesIn isLost
+lost-second at e g k q = record { loses = rw k; there = in-second refl; only = λ to w. only-second at to e g k q w }
+
+lost-third : (at : ℕ) (e g : Event) → isLost e ≡ false → isLost g ≡ false → Tells at (record { first = e; second = g; third = Lost at })
+unfolding losesIn isLost
+lost-third at e g k q = record { loses = rw (k, q); there = in-third refl; only = λ to w. only-third at to e g k q w }
+
+pub then-tells : (at : ℕ) (es : Events) → Quiet es → Tells at (thenOf es (Lost at))
+unfolding thenOf isLost
+then-tells at es q =
+    let a : Events = record { first = Lost at; second = es .second; third = Nothing } in
+    let b : Events = record { first = es .first; second = Lost at; third = Nothing } in
+    let d : Events = record { first = es .first; second = es .second; third = Lost at } in
+    if-both (Tells at) (isNothing (es .first)) a (if isNothing (es .second) then b else d)
+    (lost-first at (es .second) Nothing (q .second) refl)
+    (if-both (Tells at) (isNothing (es .second)) b d (lost-second at (es .first) Nothing (q .first) refl) (lost-third at (es .first) (es .second) (q .first) (q .second)))
+
+-- a period of zeros behind the loss: there is room, as no second head was told
+pub period-tells : (at : ℕ) (es : Events) (p : SyncStats) → Quiet es → es .second ≡ Nothing → Tells at (thenOf (thenOf es (Lost at)) (Period p))
+unfolding thenOf isNothing isLost if_then_else_
+period-tells at es p q e =
+    by-test (isNothing (es .first))
+    (λ t. rw (t, e) (lost-first at (Period p) Nothing refl refl))
+    (λ t. rw (t, e, t) (lost-second at (es .first) (Period p) (q .first) refl))
+
+not-lost : (p : SyncStats) → isLost (Period p) ≡ false
+unfolding isLost
+not-lost p = refl
+
+module _ (n base : ℕ) (last : Record) (h : List Push) where
+  taken-alone : (c : ℕ) → Alone (takenAt n base last h c)
+  unfolding takenAt
+  taken-alone c =
+      let e = heardTo n base last h c in
+      if-both Alone (readsAt n base last h c) (readOf n (e .stage) (e .course) (readingAt n base last h c))
+      (record { lost = false; stage = e .stage; course = e .course; first = NoHead; second = NoHead })
+      (lost-alone n (e .stage) (e .course) (readingAt n base last h c))
+      (λ x. refl)
+
+  alone-none : (c : ℕ) → takenAt n base last h c .lost ≡ true → headsOf (takenAt n base last h c) .second ≡ Nothing
+  unfolding headsOf eventOf
+  alone-none c t = rw (taken-alone c t)
+
+  abbrev At : ℕ → Events → Type 0
+  At c es = (losesIn es ≡ losesAt n base last h c) × (losesAt n base last h c ≡ true → Tells (base + c + 24) es)
+
+  -- ---- what the symbol that completes position c tells of a loss
+  pub lost-told : (c : ℕ) → At c (toldAt n base last h c)
+  unfolding toldAt losesAt if_then_else_ takenAt
+  lost-told c =
+      let k = takenAt n base last h c in
+      let q = heads-quiet k in
+      let next = base + c + 24 in
+      by-test (k .lost)
+      (λ t.
+      by-test (endsAt n base last h c)
+      (λ e. rw (t, e) (let w = period-tells next (headsOf k) (statsOf (startedOf next (k .course .last))) q (alone-none c t) in (w .loses, λ x. w)))
+      (λ e. rw (t, e) (let w = then-tells next (headsOf k) q in (w .loses, λ x. w))))
+      (λ t.
+      by-test (endsAt n base last h c)
+      (λ e.
+      by-test (periodLoses n base last h c)
+      (λ p. rw (t, e, p) (let w = then-tells next (headsOf k) q in (w .loses, λ x. w)))
+      (λ p. rw (t, e, p) (then-quiet (headsOf k) (Period (statsAt n base last h c)) (not-lost (statsAt n base last h c)) q, λ x. absurd (never (sym x)))))
+      (λ e. rw (t, e) (quiet-none (headsOf k) q, λ x. absurd (never (sym x)))))
+
+  -- .. and the symbol after m others, the first 23 of which complete no position
+  early-none : losesIn noEvents ≡ false
+  unfolding losesIn isLost noEvents
+  early-none = refl
+
+  pub tells-loses : (m : ℕ) → losesIn (tells n base last h m) ≡ (if ltb m 23 then false else losesAt n base last h (m - 23))
+  unfolding tells if_then_else_
+  tells-loses m = by-test (ltb m 23) (λ t. rw t early-none) (λ t. rw t (lost-told (m - 23) .0))
