@@ -227,7 +227,7 @@ agree-held c x a b l ea eb h k p =
     let e : k ≡ 2 * c + 1 = omega (arith, ltb-false k (2 * c) t, eqb-false k (2 * c) u, p) in
     rw e (wa .1 ∙ sym (wb .1))))
 
-agree-pushed : (s : SlotPhase) (x : Symbol) (a b : List ℤ) → length a ≡ 18592 → length b ≡ 18592 → AgreeOn s a b → AgreeOn (pushedOf s) (storedOf s (x .i) (x .q) a) (storedOf s (x .i) (x .q) b)
+pub agree-pushed : (s : SlotPhase) (x : Symbol) (a b : List ℤ) → length a ≡ 18592 → length b ≡ 18592 → AgreeOn s a b → AgreeOn (pushedOf s) (storedOf s (x .i) (x .q) a) (storedOf s (x .i) (x .q) b)
 unfolding pushedIn storedIn countedIn
 agree-pushed Idle x a b ea eb h = tt
 agree-pushed (Holds y) x a b ea eb h =
@@ -248,7 +248,7 @@ alike-begun g a b ea eb = record { phases = refl; agree = λ k p. absurd (not-su
 alike-idle : (a b : List ℤ) → length a ≡ 18592 → length b ≡ 18592 → Alike (at Idle a) (at Idle b)
 alike-idle a b ea eb = record { phases = refl; agree = tt; first = ea; second = eb }
 
-length-stored : (s : SlotPhase) (x : Symbol) (a : List ℤ) → length (storedOf s (x .i) (x .q) a) ≡ length a
+pub length-stored : (s : SlotPhase) (x : Symbol) (a : List ℤ) → length (storedOf s (x .i) (x .q) a) ≡ length a
 unfolding storedIn
 length-stored Idle x a = refl
 length-stored (Holds y) x a =

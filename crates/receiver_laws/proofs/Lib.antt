@@ -1,0 +1,3 @@
+-- Laws of the receiver's definitions.
+pub mod Heads
+pub mod Stores

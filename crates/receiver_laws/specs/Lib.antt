@@ -1,0 +1,2 @@
+-- Words of the receiver's laws.
+pub mod Stores
