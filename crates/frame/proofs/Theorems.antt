@@ -37,7 +37,7 @@ record Step (b : Back) (c : Corrected) (f s : List ℤ) : Type 0 where
   pub last : pushedBack b c f s .back .last ≡ At (c .at)
   pub count : pushedBack b c f s .back .metas .count ≡ min (b .metas .count + 1) 5
 
-no-gap : (b : Back) (at : ℕ) → gapAt (b .last) at ≡ false → joinedTo b at ≡ b
+pub no-gap : (b : Back) (at : ℕ) → gapAt (b .last) at ≡ false → joinedTo b at ≡ b
 unfolding joinedTo
 no-gap b at h = if-no (gapAt (b .last) at) (restartedBack b) b h
 

@@ -3,7 +3,7 @@ use Prim.Native.Nat.{ℕ, _+_, _*_, _^_, _≤_, _<_}
 use native.Mathlib.Omega.{arith}
 use mathlib.Core.Bool.{Bool, true, false, _&&_, _||_}
 use mathlib.Core.List.{List, [], _∷_}
-use mathlib.Core.Path.{_≡_, refl}
+use mathlib.Core.Path.{_≡_, refl, sym}
 use borrow.Author.Tests.{le-leb, lt-leb, leb-true, leb-false, eqb-true, eqb-false, lt-ltb, ltb-true, ltb-false}
 use lib.Dec.{eqb, leb, ltb}
 use lib.IntN.{ℤ, pos, negℤ, natAbs, _*ℤ_, +ℤ-idl}
@@ -33,7 +33,7 @@ use Rattle.frame.specs.Align.{startedBack, newBack, restartedBack, joinedTo, tr
 use Rattle.frame.specs.Ranges.{backInRange, MetaOk, TakeOk}
 use Rattle.frame.specs.Answers.{pushRefusal, pushAnswer}
 use Rattle.frame.proofs.Laws.{untrained, accepted, push-ok}
-use Rattle.frame_range.specs.Coherent.{CoherentBack, Short, AllShort, none, also, backAfter}
+use Rattle.frame_range.specs.Coherent.{isThere, CoherentBack, Short, AllShort, none, also, backAfter}
 
 -- ---- waiting symbols stay in range
 or-true : (t : Bool) → (t || true) ≡ true
@@ -144,7 +144,7 @@ trained-kept e m f s c ok =
     (refusal-0 e (coherent-in-range e c) free)))
     (λ t. rw (untrained e m f s (ltb-false (m .j) 24 t)) c)
 
-trained-filled : (e : Equaliser) (m : Meta) (f s : List ℤ) → trainedAt e m f s .filled ≡ e .filled
+pub trained-filled : (e : Equaliser) (m : Meta) (f s : List ℤ) → trainedAt e m f s .filled ≡ e .filled
 unfolding trainedAt trainedPart trainedEq withSums
 trained-filled e m f s =
     by-test (ltb (m .j) 24)
@@ -153,8 +153,8 @@ trained-filled e m f s =
 
 -- ---- starts
 pub restarted-coherent : (b : Back) → CoherentBack (restartedBack b)
-unfolding restartedBack startedBack startedEq noMetas blank metasInRange placeInRange metaInRange lastInRange
-restarted-coherent b = record { eq = started-coherent (b .eq .taps) (b .eq .from); metas = refl; last = refl; fill = omega arith }
+unfolding restartedBack startedBack startedEq noMetas blank metasInRange placeInRange metaInRange lastInRange isThere
+restarted-coherent b = record { eq = started-coherent (b .eq .taps) (b .eq .from); metas = refl; last = refl; fill = omega arith; there = refl }
 
 joined-coherent : (b : Back) (at : ℕ) → CoherentBack b → CoherentBack (joinedTo b at)
 unfolding joinedTo
@@ -162,14 +162,21 @@ joined-coherent b at c = if-both CoherentBack (gapAt (b .last) at) (restartedBac
 
 -- ---- one symbol
 taken-coherent : (b : Back) (c : Corrected) (f s : List ℤ) → CoherentBack b → Short c → metaInRange (metaOf c) ≡ true → lastInRange (At (c .at)) ≡ true → TakeOk b c f s → CoherentBack (takenBy b c f s .back)
-unfolding takenBy joined moved pushedEq if_then_else_
+unfolding takenBy joined moved pushedEq if_then_else_ isThere
 taken-coherent b c f s k y hm hl ok =
     let e = pushedEq (b .eq) (c .y .i) (c .y .q) in
     let ce : Coherent e = pushed-coherent (b .eq) (c .y .i) (c .y .q) (k .eq) (y .i) (y .q) in
     by-test (ltb (b .metas .count) 5)
     (λ t.
     let l = ltb-true (b .metas .count) 5 t in
-    rw t (record { eq = ce; metas = joined-kept (b .metas) (metaOf c) hm (k .metas) l; last = hl; fill = omega (arith, l, k .fill) }))
+    rw t
+    (record {
+      eq = ce;
+      metas = joined-kept (b .metas) (metaOf c) hm (k .metas) l;
+      last = hl;
+      fill = omega (arith, l, k .fill);
+      there = sym (lt-ltb 0 (b .metas .count + 1) (omega arith));
+    }))
     (λ t.
     let l = ltb-false (b .metas .count) 5 t in
     rw t
@@ -178,6 +185,7 @@ taken-coherent b c f s k y hm hl ok =
       metas = moved-kept (b .metas) (metaOf c) hm (k .metas) l;
       last = hl;
       fill = rw (trained-filled e (b .metas .first) f s) (omega (arith, k .fill, places (b .metas) (k .metas) .count));
+      there = sym (lt-ltb 0 (b .metas .count) (omega (arith, l)));
     }))
 
 below : (n m : ℕ) → leb m n ≡ false → ltb n m ≡ true

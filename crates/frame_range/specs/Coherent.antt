@@ -1,16 +1,23 @@
 -- What is true together of the numbers of an alignment that came from calls: docs/RANGES.md, "Alignment".
 use Prim.Native.Nat.{_≤_}
-use mathlib.Core.Bool.{true}
+use mathlib.Core.Bool.{Bool, true, false}
 use mathlib.Core.List.{List, [], _∷_}
 use mathlib.Core.Path.{_≡_}
+use lib.Dec.{ltb}
 use lib.IntN.{ℤ}
 use mir.Syntax.{w16}
 use mir.Val.{SFits}
 use Rattle.phase.specs.declared.Corrected.{Corrected}
 use Rattle.eq_range.specs.Coherent.{Coherent}
+use Rattle.frame_line.specs.declared.LastAt.{LastAt}
+use Rattle.frame_line.specs.declared.LastAt.the-variants.{Never, At}
 use Rattle.frame_line.specs.Ranges.{metasInRange, lastInRange}
 use Rattle.frame.specs.declared.Back.{Back}
 use Rattle.frame.specs.Answers.{pushAnswer}
+
+unfoldable pub isThere : LastAt → Bool
+isThere Never = false
+isThere (At a) = true
 
 pub record CoherentBack (b : Back) : Type 0 where
   pub eq : Coherent (b .eq)
@@ -18,6 +25,8 @@ pub record CoherentBack (b : Back) : Type 0 where
   pub last : lastInRange (b .last) ≡ true
   -- each that waits is in the line
   pub fill : b .metas .count ≤ b .eq .filled
+  -- the last position is there exactly if symbols wait
+  pub there : isThere (b .last) ≡ ltb 0 (b .metas .count)
 
 -- a corrected symbol's value is of 16 bits
 pub record Short (c : Corrected) : Type 0 where

@@ -1,0 +1,3 @@
+-- What was received says what calls come to: Theorems.
+pub mod Stretches
+pub mod Theorems
