@@ -27,7 +27,7 @@ use Rattle.frame.specs.Answers.{trainsBack}
 use Rattle.frame.proofs.Laws.{sync-places, untrained}
 use Rattle.frame.specs.Stretch.{trainedIn, afterAll, givenBy, givenAll, unbroken, metasOf}
 
-not-true : (t : Bool) → not t ≡ true → t ≡ false
+pub not-true : (t : Bool) → not t ≡ true → t ≡ false
 not-true true e = sym e
 not-true false e = refl
 

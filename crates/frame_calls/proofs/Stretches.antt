@@ -46,7 +46,7 @@ pub length-snoc : (xs : List Corrected) (c : Corrected) → length (xs ++ c ∷ 
 length-snoc xs c = length-append xs (c ∷ [])
 
 -- ---- sync symbols
-syncs-append : (xs ys : List Corrected) → syncsIn (xs ++ ys) ≡ syncsIn xs + syncsIn ys
+pub syncs-append : (xs ys : List Corrected) → syncsIn (xs ++ ys) ≡ syncsIn xs + syncsIn ys
 unfolding syncsIn
 syncs-append [] ys = omega arith
 syncs-append (x ∷ xs) ys = omega (arith, syncs-append xs ys)

@@ -44,7 +44,7 @@ use Rattle.frame.proofs.Theorems.{no-gap, aligned-theorem, waiting-theorem, cou
 use Rattle.frame_range.specs.Coherent.{CoherentBack}
 use Rattle.frame_range.proofs.Theorems.{trained-filled, restarted-coherent, new-coherent, push-keeps, coherent-back}
 use Rattle.frame_calls.specs.Calls.{Call, pushes, restarts, opens, closes, loads, CallFits, CallsFit, withEq, afterCall, afterCalls, refusalOf}
-use Rattle.frame_calls.specs.Received.{Received, none, since, nothing, isOpen, frameOf, trainedBy, trainedSince, lastOf, joining, joinedBy, fullFor, pushRefused, refusedBy, heard, heardAll, received}
+use Rattle.frame_calls.specs.Received.{Received, none, since, nothing, isOpen, frameOf, trainedBy, trainedSince, lastOf, dropped, joining, joinedBy, fullFor, pushRefused, refusedBy, heard, heardAll, received}
 use Rattle.frame_calls.specs.Claims.{Told, CallsTold}
 use Rattle.frame_calls.proofs.Stretches.{last-snoc, metas-snoc, metas-length, metas-at, length-snoc, trainsNext, begins, trained-next, none-yet}
 
@@ -59,9 +59,9 @@ record Tied (b : Back) (h : Received) : Type 0 where
   pub trained : b .eq .sums .count ≡ trainedSince h
   pub begun : begins (h .sums) ≤ length (h .stretch)
 
-restarted-tied : (b : Back) → Tied (restartedBack b) nothing
-unfolding restartedBack startedBack startedEq emptySums noMetas waitingOf nothing lastOf metasOf isOpen frameOf trainedSince trainedBy begins
-restarted-tied b =
+restarted-tied : (b : Back) (h : Received) → Tied (restartedBack b) (dropped h)
+unfolding restartedBack startedBack startedEq emptySums noMetas waitingOf dropped lastOf metasOf isOpen frameOf trainedSince trainedBy begins
+restarted-tied b h =
     record { last = refl; count = omega arith; waiting = refl; filled = omega arith; opened = refl; frame = refl; trained = refl; begun = omega arith }
 
 -- ---- one symbol, without a gap: the equaliser
@@ -198,8 +198,8 @@ unfolding joinedTo joining
 joined-tied b h c t =
     let gap = gapAt (lastOf (h .stretch)) (c .at) in
     let e : gapAt (b .last) (c .at) ≡ gap = ap (λ (x : LastAt). gapAt x (c .at)) (t .last) in
-    by-test gap (λ u. rw (if-yes (gapAt (b .last) (c .at)) (restartedBack b) b (e ∙ u), if-yes gap nothing h u) (restarted-tied b))
-    (λ u. rw (if-no (gapAt (b .last) (c .at)) (restartedBack b) b (e ∙ u), if-no gap nothing h u) t)
+    by-test gap (λ u. rw (if-yes (gapAt (b .last) (c .at)) (restartedBack b) b (e ∙ u), if-yes gap (dropped h) h u) (restarted-tied b h))
+    (λ u. rw (if-no (gapAt (b .last) (c .at)) (restartedBack b) b (e ∙ u), if-no gap (dropped h) h u) t)
 
 -- .. after a gap too
 any-tied : (b : Back) (h : Received) (c : Corrected) (f s : List ℤ) → Tied b h → Tied (pushedBack b c f s .back) (joinedBy (joining h c) c)
@@ -207,8 +207,8 @@ unfolding joining restartedBack startedBack gapAt
 any-tied b h c f s t =
     let gap = gapAt (lastOf (h .stretch)) (c .at) in
     let e : gapAt (b .last) (c .at) ≡ gap = ap (λ (x : LastAt). gapAt x (c .at)) (t .last) in
-    by-test gap (λ u. rw (gap-theorem b c f s (e ∙ u), if-yes gap nothing h u) (pushed-tied (restartedBack b) nothing c f s (restarted-tied b) refl))
-    (λ u. rw (if-no gap nothing h u) (pushed-tied b h c f s t (e ∙ u)))
+    by-test gap (λ u. rw (gap-theorem b c f s (e ∙ u), if-yes gap (dropped h) h u) (pushed-tied (restartedBack b) (dropped h) c f s (restarted-tied b h) refl))
+    (λ u. rw (if-no gap (dropped h) h u) (pushed-tied b h c f s t (e ∙ u)))
 
 -- ---- refusals
 more-than : (n : ℕ) (t : Bool) → ltb n (n + (if t then 1 else 0)) ≡ t
@@ -334,7 +334,7 @@ call-tied b h (pushes c f s) k t =
     let e : eqb (pushRefusal b c f s) 0 ≡ eqb n 0 = ap (λ (x : ℕ). eqb x 0) (push-told b h c f s k t) in
     by-test (eqb n 0) (λ u. rw (afterCall, push-taken b c f s (e ∙ u), if-yes (eqb n 0) (joinedBy (joining h c) c) h u) (any-tied b h c f s t))
     (λ u. rw (afterCall, push-refused b c f s (e ∙ u), if-no (eqb n 0) (joinedBy (joining h c) c) h u) t)
-call-tied b h restarts k t = rw (afterCall, restart-is b (coherent-back b k)) (restarted-tied b)
+call-tied b h restarts k t = rw (afterCall, restart-is b (coherent-back b k)) (restarted-tied b h)
 call-tied b h (opens frame) k t = rw (afterCall, open-is (b .eq) frame (coherent-in-range (b .eq) (k .eq))) (opened-tied b h frame t)
 call-tied b h closes k t = rw (afterCall, close-is (b .eq) (k .eq) .eq) (closed-tied b h t)
 call-tied b h (loads taps frame) k t = rw (afterCall, load-is (b .eq) taps frame (coherent-in-range (b .eq) (k .eq))) (loaded-tied b h taps frame t)
@@ -367,8 +367,8 @@ calls-go b h [] k t y = told b h k t
 calls-go b h (c ∷ cs) k t y = calls-go (afterCall b c) (heard h c) cs (call-keeps b c k (y .0)) (call-tied b h c k t) (y .1)
 
 new-tied : Tied newBack nothing
-unfolding newBack newEq startedEq restartedBack startedBack
-new-tied = restarted-tied newBack
+unfolding newBack newEq startedEq restartedBack startedBack nothing dropped
+new-tied = restarted-tied newBack nothing
 
 pub calls-told : CallsTold
 unfolding received

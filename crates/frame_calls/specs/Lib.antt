@@ -2,3 +2,5 @@
 pub mod Calls
 pub mod Received
 pub mod Claims
+pub mod Slots
+pub mod Worked

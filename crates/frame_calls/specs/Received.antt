@@ -62,9 +62,12 @@ lastOf [] = Never
 lastOf (c ∷ []) = At (c .at)
 lastOf (c ∷ d ∷ ds) = lastOf (d ∷ ds)
 
--- a gap, or a restart, drops the symbols and open sums
+-- a restart, "equaliser and alignment" (The receiver), drops the symbols and open sums; and so does a gap
+unfoldable pub dropped : Received → Received
+dropped h = record { stretch = []; sums = none }
+
 unfoldable pub joining : Received → Corrected → Received
-joining h c = if gapAt (lastOf (h .stretch)) (c .at) then nothing else h
+joining h c = if gapAt (lastOf (h .stretch)) (c .at) then dropped h else h
 
 unfoldable pub joinedBy : Received → Corrected → Received
 joinedBy h c = record { stretch = h .stretch ++ c ∷ []; sums = h .sums }
@@ -92,7 +95,7 @@ refusedBy h (loads taps frame) = 0
 
 unfoldable pub heard : Received → Call → Received
 heard h (pushes c f s) = if eqb (pushRefused h c f s) 0 then joinedBy (joining h c) c else h
-heard h restarts = nothing
+heard h restarts = dropped h
 heard h (opens frame) = record { stretch = h .stretch; sums = since frame (length (h .stretch)) }
 heard h closes = record { stretch = h .stretch; sums = none }
 heard h (loads taps frame) = h
