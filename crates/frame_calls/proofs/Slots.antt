@@ -22,9 +22,9 @@ use Rattle.frame.specs.Align.{isSync}
 use Rattle.frame.proofs.Laws.{sync-places}
 use Rattle.frame.proofs.Theorems.{not-true}
 use Rattle.frame_calls.specs.Calls.{Call, pushes, restarts, opens, CallsFit, afterCalls}
-use Rattle.frame_calls.specs.Received.{Opening, none, since, Received, nothing, dropped, isOpen, frameOf, alignedOf, syncsIn, trainedBy, trainedSince, lastOf, joining, joinedBy, fullFor, pushRefused, heard, heardAll, received}
+use Rattle.frame_calls.specs.Received.{Opening, none, since, Received, nothing, dropped, isOpen, frameOf, alignedBy, ignoredTo, syncsIn, trainedBy, trainedSince, lastOf, joining, joinedBy, fullFor, pushRefused, heard, heardAll, received}
 use Rattle.frame_calls.specs.Slots.{Runs, SlotsTrain, pushAll, Fine, AllFine, SlotsEnd, SlotsClaim}
-use Rattle.frame_calls.proofs.Stretches.{last-snoc, length-snoc, syncs-append}
+use Rattle.frame_calls.proofs.Stretches.{last-snoc, length-snoc, syncs-append, five-behind, counted}
 use Rattle.frame_calls.proofs.Theorems.{calls-told}
 
 -- the sync symbols among the first m of a stretch that runs
@@ -58,13 +58,13 @@ syncs-between xs c a m r l h =
     omega (arith, e, k, syncs-to xs c m r h)
 
 trained-runs : (frame n : ℕ) (xs : List Corrected) (c : Corrected) → Runs xs → n ≤ length xs → 10 ≤ length xs
-    → trainedBy (since frame n) xs + syncsTo (max (n - 5) 5) ≡ syncsTo (length xs - 5)
-unfolding trainedBy alignedOf
-trained-runs frame n xs c r h l = syncs-between xs c (max (n - 5) 5) (length xs - 5) r (omega arith) (omega arith)
+    → trainedBy (since frame n) xs + syncsTo (ignoredTo n) ≡ syncsTo (alignedBy (length xs))
+unfolding trainedBy
+trained-runs frame n xs c r h l = syncs-between xs c (ignoredTo n) (alignedBy (length xs)) r (counted n (length xs) h l) (omega (arith, five-behind (length xs)))
 
 -- ---- THE FIRST SLOT TRAINS 19 TIMES, EACH LATER ONE 24
 first-slot : (frame n : ℕ) (xs : List Corrected) → Runs xs → n ≤ 10 → length xs ≡ 9296 → trainedBy (since frame n) xs ≡ 19
-unfolding syncsTo
+unfolding syncsTo alignedBy ignoredTo
 first-slot frame n [] r h l = absurd (omega (arith, l))
 first-slot frame n (x ∷ xs) r h l =
     let e = trained-runs frame n (x ∷ xs) x r (omega arith) (omega arith) in
@@ -84,11 +84,12 @@ later-slot frame n (x ∷ xs) ys r h l m =
     let q = length-append (x ∷ xs) ys in
     let a = trained-runs frame n (x ∷ xs) x (runs-front (x ∷ xs) ys r) h l in
     let b = trained-runs frame n ((x ∷ xs) ++ ys) x r (omega (arith, q)) (omega (arith, q)) in
-    let e : length ((x ∷ xs) ++ ys) - 5 ≡ length (x ∷ xs) - 5 + 9296 = omega (arith, q, m, l) in
-    omega (arith, a, b, ap syncsTo e, slot-on (length (x ∷ xs) - 5))
+    let e : alignedBy (length ((x ∷ xs) ++ ys)) ≡ alignedBy (length (x ∷ xs)) + 9296 =
+    omega (arith, q, m, l, five-behind (length (x ∷ xs)), five-behind (length ((x ∷ xs) ++ ys))) in
+    omega (arith, a, b, ap syncsTo e, slot-on (alignedBy (length (x ∷ xs))))
 
 all-slots : (frame k : ℕ) (xs : List Corrected) → Runs xs → length xs ≡ suc k * 9296 → trainedBy (since frame 0) xs ≡ 19 + 24 * k
-unfolding syncsTo
+unfolding syncsTo alignedBy ignoredTo
 all-slots frame k [] r l = absurd (omega (arith, l))
 all-slots frame k (x ∷ xs) r l =
     let e = trained-runs frame 0 (x ∷ xs) x r (omega arith) (omega arith) in
@@ -119,11 +120,11 @@ syncs-few [] = omega arith
 syncs-few (x ∷ xs) = omega (arith, syncs-few xs, if-both (λ (n : ℕ). n ≤ 1) (isSync (partOf (x .j))) 1 0 (omega arith) (omega arith))
 
 trained-few : (o : Opening) (xs : List Corrected) → trainedBy o xs ≤ length xs
-unfolding trainedBy alignedOf
+unfolding trainedBy
 trained-few none xs = omega arith
 trained-few (since frame n) xs =
-    let l = take (length xs - 5) xs in
-    omega (arith, syncs-few (drop (max (n - 5) 5) l), length-drop (max (n - 5) 5) l, length-take (length xs - 5) xs)
+    let k = alignedBy (length xs) in
+    omega (arith, syncs-few (drop (ignoredTo n) (take k xs)), length-drop (ignoredTo n) (take k xs), length-take k xs)
 
 -- room for one more
 room : (h : Received) (c : Corrected) → length (h .stretch) < 4194304 → fullFor h c ≡ false

@@ -17,7 +17,7 @@ use Rattle.frame_line.specs.declared.LastAt.the-variants.{At}
 use Rattle.frame_line.specs.Line.{metaOf}
 use Rattle.frame.specs.Align.{isSync}
 use Rattle.frame.specs.Stretch.{metasOf}
-use Rattle.frame_calls.specs.Received.{Opening, none, since, Received, isOpen, alignedOf, syncsIn, trainedBy, trainedSince, lastOf, joinedBy}
+use Rattle.frame_calls.specs.Received.{Opening, none, since, Received, isOpen, alignedBy, ignoredTo, syncsIn, trainedBy, trainedSince, lastOf, joinedBy}
 
 -- ---- the last, and what they come out with
 pub last-snoc : (xs : List Corrected) (c : Corrected) → lastOf (xs ++ c ∷ []) ≡ At (c .at)
@@ -55,20 +55,35 @@ syncs-append (x ∷ xs) ys = omega (arith, syncs-append xs ys)
 unfoldable pub trainsNext : Received → Corrected → Bool
 trainsNext h c = let n = length (h .stretch) in isOpen (h .sums) && leb 10 n && isSync (partOf (getD (h .stretch) (n - 5) c .j))
 
--- the line is short: none of a stretch up to ten is counted
-few : (a : ℕ) (xs : List Corrected) → 5 ≤ a → length xs ≤ 10 → drop a (alignedOf xs) ≡ []
-unfolding alignedOf
-few a xs l h = drop-of-length-le (take (length xs - 5) xs) {i = a} (omega (arith, length-take (length xs - 5) xs))
+-- ---- how many are aligned, and ignored
+pub five-behind : (n : ℕ) → alignedBy n ≡ n - 5
+unfolding alignedBy
+five-behind n = omega arith
 
--- it is full: one more is aligned
-one-more : (a : ℕ) (xs : List Corrected) (c : Corrected) → 10 ≤ length xs → a ≤ length xs - 5
-    → drop a (alignedOf (xs ++ c ∷ [])) ≡ drop a (alignedOf xs) ++ getD xs (length xs - 5) c ∷ []
-unfolding alignedOf
-one-more a xs c h l =
-    let n = length xs - 5 in
-    let m : length (xs ++ c ∷ []) - 5 ≡ suc n = omega (arith, length-snoc xs c) in
-    rw (m, take-append-le (suc n) xs (c ∷ []) (omega arith), take-suc xs n c (omega arith))
-    (drop-append-le a (take n xs) (getD xs n c ∷ []) (omega (arith, length-take-le n xs (omega arith))))
+-- the line is short, or sums are not open yet
+pub ignored : (n m : ℕ) → m ≤ max n 10 → alignedBy m ≤ ignoredTo n
+unfolding alignedBy ignoredTo
+ignored n m h = omega (arith, h)
+
+-- neither
+pub counted : (n m : ℕ) → n ≤ m → 10 ≤ m → ignoredTo n ≤ alignedBy m
+unfolding alignedBy ignoredTo
+counted n m h l = omega (arith, h, l)
+
+none-counted : (n : ℕ) (xs : List Corrected) → length xs ≤ max n 10 → drop (ignoredTo n) (take (alignedBy (length xs)) xs) ≡ []
+none-counted n xs h =
+    let k = alignedBy (length xs) in
+    drop-of-length-le (take k xs) {i = ignoredTo n} (omega (arith, length-take k xs, ignored n (length xs) h))
+
+one-more : (n : ℕ) (xs : List Corrected) (c : Corrected) → n ≤ length xs → 10 ≤ length xs
+    → drop (ignoredTo n) (take (alignedBy (length (xs ++ c ∷ []))) (xs ++ c ∷ []))
+    ≡ drop (ignoredTo n) (take (alignedBy (length xs)) xs) ++ getD xs (length xs - 5) c ∷ []
+one-more n xs c h l =
+    let k = length xs - 5 in
+    let e : alignedBy (length xs) ≡ k = five-behind (length xs) in
+    let m : alignedBy (length (xs ++ c ∷ [])) ≡ suc k = omega (arith, five-behind (length (xs ++ c ∷ [])), length-snoc xs c, l) in
+    rw (m, e, take-append-le (suc k) xs (c ∷ []) (omega (arith, l)), take-suc xs k c (omega (arith, l)))
+    (drop-append-le (ignoredTo n) (take k xs) (getD xs k c ∷ []) (omega (arith, length-take-le k xs (omega arith), counted n (length xs) h l, e)))
 
 -- how many of the stretch had come at the opening
 unfoldable pub begins : Opening → ℕ
@@ -80,22 +95,18 @@ trained-more : (o : Opening) (xs : List Corrected) (c : Corrected) → begins o 
 unfolding trainedBy syncsIn isOpen begins if_then_else_
 trained-more none xs c h = omega arith
 trained-more (since frame n) xs c h =
-    let a = max (n - 5) 5 in
+    let old = drop (ignoredTo n) (take (alignedBy (length xs)) xs) in
     by-test (leb 10 (length xs))
-    (λ t.
-    let l = leb-true 10 (length xs) t in
-    rw (t, one-more a xs c l (omega (arith, l, h)), syncs-append (drop a (alignedOf xs)) (getD xs (length xs - 5) c ∷ [])) (omega arith))
+    (λ t. rw (t, one-more n xs c h (leb-true 10 (length xs) t), syncs-append old (getD xs (length xs - 5) c ∷ [])) (omega arith))
     (λ t.
     let l = leb-false 10 (length xs) t in
-    rw (t, few a xs (omega arith) (omega (arith, l)), few a (xs ++ c ∷ []) (omega arith) (omega (arith, l, length-snoc xs c))) (omega arith))
+    rw (t, none-counted n xs (omega (arith, l)), none-counted n (xs ++ c ∷ []) (omega (arith, l, length-snoc xs c))) (omega arith))
 
 pub trained-next : (h : Received) (c : Corrected) → begins (h .sums) ≤ length (h .stretch) → trainedSince (joinedBy h c) ≡ trainedSince h + (if trainsNext h c then 1 else 0)
 unfolding trainedSince joinedBy trainsNext
 trained-next h c b = trained-more (h .sums) (h .stretch) c b
 
 -- at the opening none is counted yet
-pub none-yet : (frame : ℕ) (xs : List Corrected) → trainedBy (since frame (length xs)) xs ≡ 0
-unfolding trainedBy alignedOf syncsIn
-none-yet frame xs =
-    let n = length xs in
-    rw (drop-of-length-le (take (n - 5) xs) {i = max (n - 5) 5} (omega (arith, length-take (n - 5) xs)))
+pub none-yet : (frame n : ℕ) (xs : List Corrected) → length xs ≤ n → trainedBy (since frame n) xs ≡ 0
+unfolding trainedBy syncsIn
+none-yet frame n xs h = rw (none-counted n xs (omega (arith, h)))

@@ -262,9 +262,8 @@ with-coherent : (b : Back) (e : Equaliser) → CoherentBack b → Coherent e →
 unfolding withEq
 with-coherent b e k c h = record { eq = c; metas = k .metas; last = k .last; fill = omega (arith, k .fill, h); there = k .there }
 
-opened-tied : (b : Back) (h : Received) (frame : ℕ) → Tied b h
-    → Tied (withEq b (withSums (b .eq) true (emptySums frame))) (record { stretch = h .stretch; sums = since frame (length (h .stretch)) })
-unfolding withEq withSums emptySums isOpen frameOf trainedSince begins
+opened-tied : (b : Back) (h : Received) (frame : ℕ) → Tied b h → Tied (withEq b (withSums (b .eq) true (emptySums frame))) (heard h (opens frame))
+unfolding heard withEq withSums emptySums isOpen frameOf trainedSince begins
 opened-tied b h frame t =
     record {
       last = t .last;
@@ -273,7 +272,7 @@ opened-tied b h frame t =
       filled = t .filled;
       opened = refl;
       frame = refl;
-      trained = sym (none-yet frame (h .stretch));
+      trained = sym (none-yet frame _ (h .stretch) (omega arith));
       begun = omega arith;
     }
 

@@ -38,20 +38,24 @@ frameOf none = 0
 frameOf (since frame n) = frame
 
 -- ---- the count
--- "A corrected slot is aligned as in `Back::push`, five symbols late" (The receiver): all of a stretch but its last five
-unfoldable pub alignedOf : List Corrected → List Corrected
-alignedOf xs = take (length xs - 5) xs
+-- "A corrected slot is aligned as in `Back::push`, five symbols late" (The receiver): how many of a stretch's first n
+unfoldable pub alignedBy : ℕ → ℕ
+alignedBy n = n - 5
 
 -- "24 sync, 32 pilot, .." (The receiver): the sync symbols among these
 unfoldable pub syncsIn : List Corrected → ℕ
 syncsIn [] = 0
 syncsIn (c ∷ cs) = (if isSync (partOf (c .j)) then 1 else 0) + syncsIn cs
 
--- "With sums open, sync symbols train" (The receiver), "training ignored while the line holds under 11 symbols or no sums are open" (Refusals).
--- Not counted: those aligned before the opening, at the n-th symbol; and a stretch's first five, aligned by its 6th to 10th symbol
+-- "training ignored while the line holds under 11 symbols or no sums are open" (Refusals): with sums opened after the n-th symbol, what was
+-- aligned up to that one, and up to the tenth
+unfoldable pub ignoredTo : ℕ → ℕ
+ignoredTo n = alignedBy (max n 10)
+
+-- "With sums open, sync symbols train" (The receiver)
 unfoldable pub trainedBy : Opening → List Corrected → ℕ
 trainedBy none xs = 0
-trainedBy (since frame n) xs = syncsIn (drop (max (n - 5) 5) (alignedOf xs))
+trainedBy (since frame n) xs = syncsIn (drop (ignoredTo n) (take (alignedBy (length xs)) xs))
 
 unfoldable pub trainedSince : Received → ℕ
 trainedSince h = trainedBy (h .sums) (h .stretch)

@@ -175,7 +175,7 @@ taken-coherent b c f s k y hm hl ok =
       metas = joined-kept (b .metas) (metaOf c) hm (k .metas) l;
       last = hl;
       fill = omega (arith, l, k .fill);
-      there = sym (lt-ltb 0 (b .metas .count + 1) (omega arith));
+      there = sym (lt-ltb _ (b .metas .count + 1) (omega arith));
     }))
     (λ t.
     let l = ltb-false (b .metas .count) 5 t in
