@@ -1,7 +1,7 @@
 -- How often whole slots train. Assumes nothing.
-use Prim.Native.Nat.{ℕ, zero, suc, _+_, _-_, _*_, _/_, _%_, _^_, _≤_, _<_, max, min}
+use Prim.Native.Nat.{ℕ, zero, suc, _+_, _-_, _*_, _/_, _%_, _^_, _≤_, _<_, min}
 use native.Mathlib.Omega.{arith}
-use mathlib.Core.Bool.{Bool, true, false, not, _&&_}
+use mathlib.Core.Bool.{true, false, not}
 use mathlib.Core.List.{List, [], _∷_, _++_, append-nil, append-assoc}
 use mathlib.Core.Path.{_≡_, refl, sym, ap, _∙_}
 use borrow.Author.Tests.{lt-ltb, ltb-true, ltb-false, lt-leb}
@@ -21,9 +21,9 @@ use Rattle.frame_map.specs.Map.{partOf}
 use Rattle.frame.specs.Align.{isSync}
 use Rattle.frame.proofs.Laws.{sync-places}
 use Rattle.frame.proofs.Theorems.{not-true}
-use Rattle.frame_calls.specs.Calls.{Call, pushes, restarts, opens, CallsFit, afterCalls}
+use Rattle.frame_calls.specs.Calls.{Call, pushes, restarts, opens, CallsFit}
 use Rattle.frame_calls.specs.Received.{Opening, none, since, Received, nothing, dropped, isOpen, frameOf, alignedBy, ignoredTo, syncsIn, trainedBy, trainedSince, lastOf, joining, joinedBy, fullFor, pushRefused, heard, heardAll, received}
-use Rattle.frame_calls.specs.Slots.{Runs, SlotsTrain, pushAll, Fine, AllFine, SlotsEnd, SlotsClaim}
+use Rattle.frame_calls.specs.Slots.{Runs, SlotsTrain, pushAll, Fine, AllFine, SlotsClaim}
 use Rattle.frame_calls.proofs.Stretches.{last-snoc, length-snoc, syncs-append, five-behind, counted}
 use Rattle.frame_calls.proofs.Theorems.{calls-told}
 

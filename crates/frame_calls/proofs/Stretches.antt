@@ -36,8 +36,8 @@ unfolding metasOf
 metas-length [] = refl
 metas-length (x ∷ xs) = ap suc (metas-length xs)
 
-pub metas-at : (xs : List Corrected) (k : ℕ) (c : Corrected) → getD (metasOf xs) k (metaOf c) .j ≡ getD xs k c .j
-unfolding metasOf metaOf
+pub metas-at : (xs : List Corrected) (k : ℕ) (c : Corrected) → getD (metasOf xs) k (metaOf c) ≡ metaOf (getD xs k c)
+unfolding metasOf
 metas-at [] k c = refl
 metas-at (x ∷ xs) zero c = refl
 metas-at (x ∷ xs) (suc k) c = metas-at xs k c

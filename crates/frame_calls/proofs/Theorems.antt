@@ -44,8 +44,8 @@ use Rattle.frame.proofs.Theorems.{no-gap, aligned-theorem, waiting-theorem, cou
 use Rattle.frame_range.specs.Coherent.{CoherentBack}
 use Rattle.frame_range.proofs.Theorems.{trained-filled, restarted-coherent, new-coherent, push-keeps, coherent-back}
 use Rattle.frame_calls.specs.Calls.{Call, pushes, restarts, opens, closes, loads, CallFits, CallsFit, withEq, afterCall, afterCalls, refusalOf}
-use Rattle.frame_calls.specs.Received.{Received, none, since, nothing, isOpen, frameOf, trainedBy, trainedSince, lastOf, dropped, joining, joinedBy, fullFor, pushRefused, refusedBy, heard, heardAll, received}
-use Rattle.frame_calls.specs.Claims.{Told, CallsTold}
+use Rattle.frame_calls.specs.Received.{Received, none, nothing, isOpen, frameOf, trainedBy, trainedSince, lastOf, dropped, joining, joinedBy, fullFor, pushRefused, refusedBy, heard, heardAll, received}
+use Rattle.frame_calls.specs.Claims.{Brings, Told, CallsTold}
 use Rattle.frame_calls.proofs.Stretches.{last-snoc, metas-snoc, metas-length, metas-at, length-snoc, trainsNext, begins, trained-next, none-yet}
 
 -- ---- an alignment that has received h
@@ -147,8 +147,19 @@ short-order a true false = refl
 short-order a false true = refl
 short-order a false false = refl
 
+-- once five wait, the oldest is the symbol five before the next
+oldest : (b : Back) (h : Received) (c : Corrected) → Tied b h → 5 ≤ length (h .stretch) → b .metas .first ≡ metaOf (getD (h .stretch) (length (h .stretch) - 5) c)
+oldest b h c t l =
+    let k = length (h .stretch) - 5 in
+    let z : k + 0 ≡ k = omega arith in
+    sym (first-waits (b .metas) (metaOf c) (omega (arith, t .count, l)))
+    ∙ ap (λ (q : List Meta). getD q 0 (metaOf c)) (t .waiting)
+    ∙ getD-drop k (metasOf (h .stretch)) 0 (metaOf c)
+    ∙ metas-at (h .stretch) (k + 0) c
+    ∙ ap (λ (x : ℕ). metaOf (getD (h .stretch) x c)) z
+
 trains-told : (b : Back) (h : Received) (c : Corrected) → Tied b h → trainsBack b ≡ trainsNext h c
-unfolding trainsBack trainsNext
+unfolding trainsBack trainsNext metaOf
 trains-told b h c t =
     let n = length (h .stretch) in
     let w = b .metas in
@@ -156,16 +167,13 @@ trains-told b h c t =
     by-test (leb 10 n)
     (λ u.
     let l = leb-true 10 n u in
-    let five : w .count ≡ 5 = omega (arith, t .count, l) in
-    let z : n - 5 + 0 ≡ n - 5 = omega arith in
-    let same : w .first .j ≡ getD (h .stretch) (n - 5) c .j =
-    ap (λ (m : Meta). m .j) (sym (first-waits w (metaOf c) five) ∙ ap (λ (q : List Meta). getD q 0 (metaOf c)) (t .waiting) ∙ getD-drop (n - 5) (metasOf (h .stretch)) 0 (metaOf c))
-    ∙ metas-at (h .stretch) (n - 5 + 0) c
-    ∙ ap (λ (k : ℕ). getD (h .stretch) k c .j) z in
-    rw (le-leb 5 (w .count) (omega (arith, five)), le-leb 11 (b .eq .filled + 1) (omega (arith, t .filled, l)), same, t .opened, u) (full-order x (isOpen (h .sums))))
+    let same : w .first .j ≡ getD (h .stretch) (n - 5) c .j = ap (λ (m : Meta). m .j) (oldest b h c t (omega (arith, l))) in
+    rw (le-leb 5 (w .count) (omega (arith, t .count, l)), le-leb 11 (b .eq .filled + 1) (omega (arith, t .filled, l)), same, t .opened, u)
+    (full-order x (isOpen (h .sums))))
     (λ u.
     let l = leb-false 10 n u in
-    rw (lt-leb 11 (b .eq .filled + 1) (omega (arith, t .filled, l)), u) (short-order x (isOpen (h .sums)) (leb 5 (w .count) && isSync (partOf (w .first .j)) && b .eq .opened)))
+    rw (lt-leb 11 (b .eq .filled + 1) (omega (arith, t .filled, l)), u)
+    (short-order x (isOpen (h .sums)) (leb 5 (w .count) && isSync (partOf (w .first .j)) && b .eq .opened)))
 
 pushed-trained : (b : Back) (h : Received) (c : Corrected) (f s : List ℤ) → Tied b h → gapAt (b .last) (c .at) ≡ false
     → pushedBack b c f s .back .eq .sums .count ≡ trainedSince (joinedBy h c)
@@ -347,6 +355,21 @@ call-refusal b h (opens frame) k t = ap (λ (x : Kept). x .refusal) (open-is (b 
 call-refusal b h closes k t = close-is (b .eq) (k .eq) .refusal
 call-refusal b h (loads taps frame) k t = ap (λ (x : Kept). x .refusal) (load-is (b .eq) taps frame (coherent-in-range (b .eq) (k .eq)))
 
+-- ---- WHAT COMES OUT, by what was received
+taken-out : (b : Back) (h : Received) (c : Corrected) (f s : List ℤ) → Tied b h → Brings h c (takenBy b c f s .out)
+unfolding takenBy givenBy if_then_else_
+taken-out b h c f s t =
+    record {
+      few = λ l. rw (lt-ltb (b .metas .count) 5 (omega (arith, t .count, l)));
+      enough = λ l. rw (le-ltb (b .metas .count) 5 (omega (arith, t .count, l))) (ap (λ (m : Meta). m ∷ []) (oldest b h c t l));
+    }
+
+push-out : (b : Back) (h : Received) (c : Corrected) (f s : List ℤ) → CoherentBack b → Tied b h → pushRefused h c f s ≡ 0 → Brings (joining h c) c (pushAnswer b c f s .out)
+unfolding pushAnswer pushedBack if_then_else_
+push-out b h c f s k t z =
+    let e : pushRefusal b c f s ≡ 0 = push-told b h c f s k t ∙ z in
+    rw e (taken-out (joinedTo b (c .at)) (joining h c) c f s (joined-tied b h c t))
+
 -- ---- CALLS: of every list of calls from a new alignment on, what was received says the refusals, whether sums are open, and their count
 told : (b : Back) (h : Received) → CoherentBack b → Tied b h → Told b h
 told b h k t =
@@ -355,6 +378,7 @@ told b h k t =
       coherent = k;
       in-range = coherent-back b k;
       refusal = λ x. call-refusal b h x k t;
+      given = λ c f s z. push-out b h c f s k t z;
       ended = c .ended ∙ t .opened;
       frame = ap (λ (x : Sums). x .frame) (c .sums) ∙ t .frame;
       count = ap (λ (x : Sums). x .count) (c .sums) ∙ t .trained;

@@ -33,12 +33,13 @@ unfoldable pub isOpen : Opening → Bool
 isOpen none = false
 isOpen (since frame n) = true
 
+-- 0 where none are
 unfoldable pub frameOf : Opening → ℕ
 frameOf none = 0
 frameOf (since frame n) = frame
 
 -- ---- the count
--- "A corrected slot is aligned as in `Back::push`, five symbols late" (The receiver): how many of a stretch's first n
+-- "A corrected slot is aligned as in `Back::push`, five symbols late" (The receiver): how many are, once n of a stretch have come
 unfoldable pub alignedBy : ℕ → ℕ
 alignedBy n = n - 5
 
@@ -70,6 +71,7 @@ lastOf (c ∷ d ∷ ds) = lastOf (d ∷ ds)
 unfoldable pub dropped : Received → Received
 dropped h = record { stretch = []; sums = none }
 
+-- what a symbol at its position joins, and with it
 unfoldable pub joining : Received → Corrected → Received
 joining h c = if gapAt (lastOf (h .stretch)) (c .at) then dropped h else h
 

@@ -15,7 +15,7 @@ use Rattle.frame.specs.Align.{newBack}
 use Rattle.frame.specs.Stretch.{unbroken}
 use Rattle.frame_range.specs.Coherent.{Short}
 use Rattle.frame_calls.specs.Calls.{Call, pushes, restarts, opens, CallsFit, afterCalls}
-use Rattle.frame_calls.specs.Received.{since, trainedBy, received}
+use Rattle.frame_calls.specs.Received.{since, trainedBy}
 
 -- "A slot or period is 9,296 symbols" (Slot sync and carrier)
 abbrev pub Runs : List Corrected → Type 0

@@ -10,7 +10,6 @@ use Rattle.angles.specs.declared.Symbol.{Symbol}
 use Rattle.sync_heads.specs.declared.Word.the-variants.{Ssync}
 use Rattle.sync_heads.specs.declared.Slot.the-variants.{Unknown}
 use Rattle.phase.specs.declared.Corrected.{Corrected}
-use Rattle.eq.specs.declared.Closed.{Closed}
 use Rattle.eq.specs.Answers.{closeAnswer}
 use Rattle.frame.specs.declared.Aligned.{Aligned}
 use Rattle.frame.specs.declared.Aligned.the-variants.{Nothing, Given}

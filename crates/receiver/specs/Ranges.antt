@@ -90,7 +90,7 @@ unfoldable pub metasWithin : Metas → Bool
 metasWithin w =
     eqb (w .count) 0
     || (eqb (w .count) 5 && metaWithin 0 (w .first) && metaWithin 1 (w .second) && metaWithin 2 (w .third) && metaWithin 3 (w .fourth)
-        && metaWithin 4 (w .fifth))
+    && metaWithin 4 (w .fifth))
 
 unfoldable pub lastWithin : LastAt → Bool
 lastWithin Never = true
