@@ -1,2 +1,3 @@
 -- Words of the receiver's laws.
 pub mod Stores
+pub mod Softs

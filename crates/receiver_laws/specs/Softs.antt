@@ -1,0 +1,35 @@
+-- What the soft bits of a call say of its aligned symbols.
+use Prim.Native.Nat.{ℕ, _-_, _^_, _≤_, _<_}
+use mathlib.Core.List.{List, _∷_}
+use mathlib.Core.Path.{_≡_}
+use lib.IntN.{ℤ, pos, natAbs}
+use lib.ListN.{getD}
+use lib.Signed.{_<ℤ_}
+use Rattle.demap.specs.Demap.{Nearest, bitOf}
+use Rattle.frame_map.specs.declared.SlotPart.the-variants.{Main}
+use Rattle.frame_map.specs.Map.{partOf}
+use Rattle.frame.specs.declared.AlignedSymbol.{AlignedSymbol}
+use Rattle.receiver.specs.declared.Points.{Points}
+use Rattle.receiver.specs.Slot.{pointsFor, softAll}
+
+-- ---- one soft bit: value v of the bit at place j, most significant first, of a symbol demapped with 2^bits points
+pub record BitTrue (bits : ℕ) (points : List ℤ) (yi yq : ℤ) (j : ℕ) (v : ℤ) : Type 0 where
+  -- "Each soft bit is within ±127"
+  pub within : natAbs v ≤ 127
+  -- "a positive one means that every nearest point has that bit 0, a negative one that every nearest has 1"
+  pub positive : pos 0 <ℤ v → (l : ℕ) → Nearest yi yq points (2 ^ bits) l → bitOf (bits - 1 - j) l ≡ 0
+  pub negative : v <ℤ pos 0 → (l : ℕ) → Nearest yi yq points (2 ^ bits) l → bitOf (bits - 1 - j) l ≡ 1
+
+pub data In (a : AlignedSymbol) : List AlignedSymbol → Type 0 where
+  here : {rest : List AlignedSymbol} → In a (a ∷ rest)
+  there : {b : AlignedSymbol} {rest : List AlignedSymbol} → In a rest → In a (b ∷ rest)
+
+-- value i of a call's soft values is a bit of a main symbol among its aligned ones, and true
+pub record SoftTrue (p : Points) (given : List AlignedSymbol) (i : ℕ) : Type 0 where
+  pub of : AlignedSymbol
+  pub among : In of given
+  pub main : ℕ
+  pub is-main : partOf (of .meta .j) ≡ Main main
+  pub place : ℕ
+  pub below : place < pointsFor p (of .meta) .bits
+  pub true-of : BitTrue (pointsFor p (of .meta) .bits) (pointsFor p (of .meta) .points) (of .z .i) (of .z .q) place (getD (softAll p given) i (pos 0))
