@@ -1,3 +1,4 @@
 -- Demand 3, proved.
 pub mod Lost
 pub mod Prefix
+pub mod Alike
