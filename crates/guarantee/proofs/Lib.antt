@@ -2,3 +2,5 @@
 pub mod Lost
 pub mod Prefix
 pub mod Alike
+pub mod Stretch
+pub mod Heads

@@ -16,10 +16,17 @@ use lib.Dec.{eqb}
 use mathlib.Core.Path.{_∙_, _≡_, ap, refl, sym}
 use native.Mathlib.Omega.{arith}
 
--- what events have made of the phase p that they found: nothing, or the slot of a head has begun, and the first head told which slot is due
+-- a head has come: its slot has begun, and the first head told which slot of the phase p before is due
+pub record Begun (n : ℕ) (p : SlotPhase) (l : Listened) : Type 0 where
+  pub last : Head
+  pub first : Head
+  pub phase : l .phase ≡ begunOf last
+  pub due : l .due ≡ dueIn n p first
+
+-- what events have made of the phase p that they found: nothing, or that
 pub data From (n : ℕ) (p : SlotPhase) (l : Listened) : Type 0 where
   untouched : l .phase ≡ p → l .due ≡ NoSlot → From n p l
-  begun : (g h : Head) → l .phase ≡ begunOf g → l .due ≡ dueIn n p h → From n p l
+  begun : Begun n p l → From n p l
 
 -- a slot that has just begun is not due
 begun-none : (n : ℕ) (g h : Head) → 0 < n → dueIn n (begunOf g) h ≡ NoSlot
@@ -35,14 +42,44 @@ none-or : (d : Due) → orDue NoSlot d ≡ d
 unfolding orDue
 none-or d = refl
 
-pub event-from : (n : ℕ) (p : SlotPhase) (l : Listened) (e : Event) → 0 < n → From n p l → From n p (eventHeard n l e)
+abbrev heardHead : ℕ → Listened → Head → Listened
+heardHead n l g = eventHeard n l (Told g)
+
+first-head : (n : ℕ) (p : SlotPhase) (l : Listened) (g : Head) → l .phase ≡ p → l .due ≡ NoSlot → Begun n p (heardHead n l g)
 unfolding eventHeard
-event-from n p l Nothing z k = k
-event-from n p l (Told g) z (untouched q d) = begun g g refl (ap (λ (u : Due). orDue u (dueIn n (l .phase) g)) d ∙ none-or (dueIn n (l .phase) g) ∙ ap (λ (u : SlotPhase). dueIn n u g) q)
-event-from n p l (Told g) z (begun a h q d) =
-    begun g h refl (ap (λ (u : SlotPhase). orDue (l .due) (dueIn n u g)) q ∙ ap (orDue (l .due)) (begun-none n a g z) ∙ or-none (l .due) ∙ d)
-event-from n p l (Period s) z k = k
-event-from n p l (Lost at) z k = k
+first-head n p l g q d =
+    record {
+      last = g;
+      first = g;
+      phase = refl;
+      due = ap (λ (u : Due). orDue u (dueIn n (l .phase) g)) d ∙ none-or (dueIn n (l .phase) g) ∙ ap (λ (u : SlotPhase). dueIn n u g) q;
+    }
+
+next-head : (n : ℕ) (p : SlotPhase) (l : Listened) (g : Head) → 0 < n → Begun n p l → Begun n p (heardHead n l g)
+unfolding eventHeard
+next-head n p l g z b =
+    record {
+      last = g;
+      first = b .first;
+      phase = refl;
+      due = ap (λ (u : SlotPhase). orDue (l .due) (dueIn n u g)) (b .phase) ∙ ap (orDue (l .due)) (begun-none n (b .last) g z) ∙ or-none (l .due) ∙ b .due;
+    }
+
+pub head-begun : (n : ℕ) (p : SlotPhase) (l : Listened) (g : Head) → 0 < n → From n p l → Begun n p (heardHead n l g)
+head-begun n p l g z (untouched q d) = first-head n p l g q d
+head-begun n p l g z (begun b) = next-head n p l g z b
+
+pub event-from : (n : ℕ) (p : SlotPhase) (l : Listened) (e : Event) → 0 < n → From n p l → From n p (eventHeard n l e)
+event-from n p l Nothing z k = unfold eventHeard in k
+event-from n p l (Told g) z k = begun (head-begun n p l g z k)
+event-from n p l (Period s) z k = unfold eventHeard in k
+event-from n p l (Lost at) z k = unfold eventHeard in k
+
+pub begun-stays : (n : ℕ) (p : SlotPhase) (l : Listened) (e : Event) → 0 < n → Begun n p l → Begun n p (eventHeard n l e)
+begun-stays n p l Nothing z b = unfold eventHeard in b
+begun-stays n p l (Told g) z b = next-head n p l g z b
+begun-stays n p l (Period s) z b = unfold eventHeard in b
+begun-stays n p l (Lost at) z b = unfold eventHeard in b
 
 pub events-from : (n : ℕ) (l : Listened) (es : Events) → 0 < n → l .due ≡ NoSlot → From n (l .phase) (listened n l es)
 unfolding listened

@@ -70,7 +70,7 @@ module _ (r : Receiver) (x : Input) (acc : List ℕ) (soft a b : List ℤ) (g : 
 
   slot-from : From 9296 (r .front .phase) (heads 9296 r x la) → dueSymbols 9296 (heads 9296 r x la .due) (x .table) a ≡ dueSymbols 9296 (heads 9296 r x la .due) (x .table) b
   slot-from (untouched p d) = rw d (none-same (x .table) a b)
-  slot-from (begun q h p d) = due-same (heads 9296 r x la .due) (r .front .phase) h (x .table) a b (g .held) d
+  slot-from (begun k) = due-same (heads 9296 r x la .due) (r .front .phase) (k .first) (x .table) a b (g .held) (k .due)
 
   slot-same : slot 9296 r x la ≡ slot 9296 r x lb
   unfolding slot heads synced rotated
@@ -116,7 +116,7 @@ module _ (r : Receiver) (x : Input) (acc : List ℕ) (soft a b : List ℤ) (g : 
   -- the slot that the heads leave: the one held, or one of which no symbol came yet
   agree-heads : From 9296 (r .front .phase) (heads 9296 r x la) → AgreeOn (heads 9296 r x la .phase) a b
   agree-heads (untouched p d) = rw p (g .held)
-  agree-heads (begun q h p d) = rw p (agree-begun q a b)
+  agree-heads (begun k) = rw (k .phase) (agree-begun (k .last) a b)
 
   agree-left : Agree (left 9296 r x la .front .phase) (if enough 9296 r x la then storedIn 9296 (heads 9296 r x la .phase) (back23 9296 r x la .i) (back23 9296 r x la .q) a else a)
       (if enough 9296 r x lb then storedIn 9296 (heads 9296 r x lb .phase) (back23 9296 r x lb .i) (back23 9296 r x lb .q) b else b)
