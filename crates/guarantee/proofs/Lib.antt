@@ -4,3 +4,5 @@ pub mod Prefix
 pub mod Alike
 pub mod Stretch
 pub mod Heads
+pub mod Taps
+pub mod Slots

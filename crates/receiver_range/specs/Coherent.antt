@@ -10,6 +10,8 @@ use lib.Signed.{_≤ℤ_}
 use Rattle.sync_corr.specs.Rows.{Bounded}
 use Rattle.sync_lock.specs.declared.Lock.the-variants.{Locked}
 use Rattle.sync_heads.specs.declared.Head.{Head}
+use Rattle.sync_heads.specs.declared.Parity.{Parity}
+use Rattle.sync_heads.specs.declared.Stage.the-variants.{Known}
 use Rattle.sync_heads.specs.Ranges.{slotInRange}
 use Rattle.sync_step.specs.declared.Run.{Run}
 use Rattle.sync_range.specs.Coherent.{rotated, corrMost, Coherent as CoherentSync}
@@ -42,6 +44,9 @@ pub record HeldFits (r : Run) (x : Held) : Type 0 where
   pub offset : ℕ
   pub misses : ℕ
   pub locked : r .lock ≡ Locked offset misses
+  -- a head is told with the parity, so that each reading from then on tells one or loses
+  pub parity : Parity
+  pub known : r .stage ≡ Known parity
   pub place : x .head .at ≡ r .base + period * 9296 + offset
   -- each symbol since has been counted; the window of the next place is 23 symbols behind
   pub counted : x .head .at + x .count + 23 ≡ r .base + r .t
