@@ -1,30 +1,15 @@
 -- Laws of the definitions of eq_replay that its proofs cite. Assumes nothing.
 use mathlib.Core.List.{List}
-use mathlib.Core.Path.{_≡_, sym}
-use Prim.Native.Nat.{ℕ, zero, suc, _+_, _≤_}
-use native.Mathlib.Omega.{arith}
-use lib.ListN.{length, List·getD-eq-default}
+use mathlib.Core.Path.{_≡_}
+use Prim.Native.Nat.{ℕ}
+use lib.ListN.{length, getD}
 use Rattle.laws.proofs.Lists.{length-firsts}
 use Rattle.wire.specs.Wire.{byteAt, packedOf, numbersOf}
-use Rattle.eq_replay.specs.declared.kept.Kept.{Kept}
-use Rattle.eq_replay.specs.Given.{at}
-use Rattle.eq_replay.specs.Replay.{same, turns, turnOf, answerBytes}
+use Rattle.eq_calls.specs.declared.kept.Kept.{Kept}
+use Rattle.eq_calls.specs.Turns.{turnOf}
+use Rattle.eq_replay.specs.Replay.{answerBytes}
 
--- ---- a number of at least a that a `match` on a, a + 1, .. a + k - 1 leaves
-abbrev pub NoneFrom : ℕ → ℕ → ℕ → Type 0
-NoneFrom a zero n = Unit {0}
-NoneFrom a (suc k) n = NoneFrom a k n × (n ≡ a + k → ⊥)
-
-pub past-from : (a k n : ℕ) → a ≤ n → NoneFrom a k n → a + k ≤ n
-past-from a zero n h t = omega arith
-past-from a (suc k) n h t = let e = past-from a k n h (t .0) in let g = t .1 in omega arith
-
--- a call that there is not
-pub turn-none : (op : ℕ) (p : List ℕ) (k : Kept) → 9 ≤ op → NoneFrom 9 7 op → same k 255 ≡ turnOf op p k
-unfolding turnOf
-turn-none op p k h t = sym (List·getD-eq-default (turns p k) (same k 255) (past-from 9 7 op h t))
-
--- ---- an answer has 192 bytes, as a call has
+-- an answer has 192 bytes, as a call has
 pub length-answer : (k : Kept) (s : List ℕ) → length (answerBytes k s) ≡ 192
 unfolding answerBytes packedOf
-length-answer k s = let p = numbersOf s in length-firsts (byteAt (turnOf (at p 0) p k .told)) 192
+length-answer k s = let p = numbersOf s in length-firsts (byteAt (turnOf (getD p 0 0) p k .told)) 192

@@ -2,17 +2,12 @@
 // numbers of 8 bytes, least byte first; compare/README.md lists the calls and what their numbers are. The program keeps one equaliser, and the
 // sums that a solving is asked of.
 // Input that ends within a call is told on standard error: a Rattle program has no exit status to tell it by.
-mod call;
-mod calls;
-mod given;
-mod kept;
-mod told;
-
-use kept::Kept;
+use eq_calls::kept::Kept;
 ghost use mathlib.Core.Path.{_≡_};
-ghost use Prim.Native.Nat.{_*_, _≤_};
-ghost use lib.ListN.{length};
-ghost use Rattle.eq_replay.specs.Replay.{replayed, leftOf};
+ghost use Prim.Native.Nat.{_+_, _*_, _≤_};
+ghost use lib.ListN.{length, drop};
+ghost use lib.Seq.{paste};
+ghost use Rattle.eq_replay.specs.Replay.{answerBytes, after, replayed, leftOf};
 
 // 256 calls.
 const BLOCK: usize = 49152;
@@ -24,6 +19,20 @@ enum Next {
     Short,
 }
 
+// The call at `at`, replaced by its answer: both have 192 bytes.
+fn replace(k: Kept, buf: &mut [u8], at: usize) -> Kept
+    requires { ⌜ at + 192 ≤ length (now buf) ⌝ }
+    ensures { λ r. ⌜ (now (buf .exit) ≡ paste (now (buf .entry)) at (answerBytes k (drop at (now (buf .entry)))) 192)
+        × (r ≡ after k (drop at (now (buf .entry)))) ⌝ }
+{
+    let p = wire::ranged::numbers(&buf[at..]);
+    let t = eq_calls::turn(p[0], k, &p);
+    let a = t.told;
+    let bytes = wire::packed(&a);
+    bytes::copy(&bytes, &mut buf[at..]);
+    t.kept
+}
+
 // Each call of the first n replaced by its answer.
 fn replay(k: Kept, buf: &mut [u8], n: usize) -> Kept
     requires { ⌜ 192 * n ≤ length (now buf) ⌝ }
@@ -32,7 +41,7 @@ fn replay(k: Kept, buf: &mut [u8], n: usize) -> Kept
     let mut s = k;
     let mut i: usize = 0;
     while i < n {
-        s = call::replace(s, buf, 192 * i);
+        s = replace(s, buf, 192 * i);
         i += 1;
     }
     s

@@ -1,0 +1,73 @@
+-- Answers as 24 numbers. A negative number is 2^64 more.
+use Prim.Native.Nat.{ℕ}
+use mathlib.Core.List.{List, [], _∷_}
+use Rattle.eq.specs.declared.Equaliser.{Equaliser}
+use Rattle.sync_heads.specs.declared.Word.{Word}
+use Rattle.sync_heads.specs.declared.Word.the-variants.{Ssync, Fsync, NotFsync}
+use Rattle.sync_heads.specs.declared.Slot.{Slot}
+use Rattle.sync_heads.specs.declared.Slot.the-variants.{Unknown, In}
+use Rattle.frame_line.specs.declared.Meta.{Meta}
+use Rattle.frame_line.specs.declared.LastAt.{LastAt}
+use Rattle.frame_line.specs.declared.LastAt.the-variants.{Never, At}
+use Rattle.wire.specs.Digest.{digestOf}
+use Rattle.eq_calls.specs.Told.{flagOf, fromShown, sumsShown}
+use Rattle.frame_replay.specs.declared.kept.Kept.{Kept}
+use Rattle.frame_replay.specs.declared.told.Shown.{Shown}
+use Rattle.frame_replay.specs.declared.told.EqShown.{EqShown}
+
+unfoldable pub wordNumber : Word → ℕ
+wordNumber Ssync = 0
+wordNumber Fsync = 1
+wordNumber NotFsync = 2
+
+-- what may be absent: whether it is there, and its numbers
+unfoldable pub slotShown : Slot → Shown
+slotShown Unknown = record { known = 0; first = 0; second = 0 }
+slotShown (In number frame) = record { known = 1; first = number; second = frame }
+
+unfoldable pub lastShown : LastAt → Shown
+lastShown Never = record { known = 0; first = 0; second = 0 }
+lastShown (At a) = record { known = 1; first = a; second = 0 }
+
+unfoldable pub eqShown : Equaliser → EqShown
+eqShown e =
+    record {
+      line = digestOf (e .line);
+      filled = e .filled;
+      taps = digestOf (e .taps);
+      from = fromShown (e .from);
+      opened = flagOf (e .opened);
+      sums = sumsShown (e .sums);
+    }
+
+-- the refusal; whether there is a symbol, and what it is; how many wait, the last position; the equaliser
+unfoldable pub toldOf : Kept → ℕ → ℕ → Meta → ℕ → ℕ → List ℕ
+toldOf k refusal given m i q =
+    let s = slotShown (m .slot) in
+    let l = lastShown (k .back .last) in
+    let x = eqShown (k .back .eq) in
+    refusal
+    ∷ given
+    ∷ i
+    ∷ q
+    ∷ m .at
+    ∷ wordNumber (m .word)
+    ∷ s .known
+    ∷ s .first
+    ∷ s .second
+    ∷ m .j
+    ∷ k .back .metas .count
+    ∷ l .known
+    ∷ l .first
+    ∷ x .line
+    ∷ x .filled
+    ∷ x .taps
+    ∷ x .from .known
+    ∷ x .from .frame
+    ∷ x .opened
+    ∷ x .sums .frame
+    ∷ x .sums .count
+    ∷ x .sums .upper
+    ∷ x .sums .right
+    ∷ 0
+    ∷ []
