@@ -5,5 +5,5 @@ set -eu
 need_rust
 need_replay
 "$here/build.sh"
-export SYNC_REPLAY=$sync_replay PHASE_REPLAY=$phase_replay DEMAP_REPLAY=$demap_replay EQ_REPLAY=$eq_replay
+export SYNC_REPLAY=$sync_replay PHASE_REPLAY=$phase_replay DEMAP_REPLAY=$demap_replay EQ_REPLAY=$eq_replay FRAME_REPLAY=$frame_replay
 exec "$root/target/compare/compare" "$@"

@@ -18,11 +18,12 @@ with_port "$out"
 program "$out/libs" main.rs "$out/compare" "${port_flags[@]}"
 
 # a stand-in for a stage's replay program
-for stage in sync phase demap eq; do
+for stage in sync phase demap eq frame; do
     rustc --edition 2021 -C opt-level=3 -L "$out/libs" --extern isdbs3_phy --extern cases \
         -o "$out/${stage}_stand_in" "$here/slip/${stage}_stand_in.rs"
 done
 export SYNC_REPLAY=$out/sync_stand_in PHASE_REPLAY=$out/phase_stand_in DEMAP_REPLAY=$out/demap_stand_in EQ_REPLAY=$out/eq_stand_in
+export FRAME_REPLAY=$out/frame_stand_in
 
 # slips FILE: the names of the slips in a stand-in, each with its function if it has one
 slips() {
@@ -56,7 +57,7 @@ for part; do
         phase) find_all phase phase_stand_in.rs 25 ;;
         demap) find_all demap soft.rs 9 && find_all demap demap_stand_in.rs 23 ;;
         eq) find_all eq eq_stand_in.rs 26 ;;
-        frame) find_all frame place.rs 4 ;;
+        frame) find_all frame place.rs 4 && find_all frame frame_stand_in.rs 30 ;;
         *) echo "usage: slip.sh [fx] [sync] [phase] [demap] [eq] [frame]" >&2; exit 2 ;;
     esac
 done

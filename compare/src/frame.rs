@@ -1,4 +1,11 @@
-//! The slot map: the Rust's answer at each place, and document 01's refusal past the last.
+//! The slot map: the Rust's answer at each place, and document 01's refusal past the last. And the alignment: calls of the
+//! replay program, what they owe, and the calls that are made, by kind.
+
+pub mod calls;
+pub mod desk;
+pub mod kinds;
+pub mod model;
+pub mod player;
 
 use crate::fx::Answer;
 use isdbs3_phy::chain::frame::{part, Part};

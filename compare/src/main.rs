@@ -86,6 +86,6 @@ fn main() {
         eq_check::compare(a.size, a.seed);
     }
     if a.frame {
-        frame_check::compare();
+        frame_check::compare(a.size, a.seed);
     }
 }

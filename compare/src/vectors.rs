@@ -1,14 +1,16 @@
-//! vectors fx|sync|phase|demap|eq DIR: writes DIR/stdin, calls for the replay program, and DIR/stdout, the answers it owes:
+//! vectors fx|sync|phase|demap|eq|frame DIR: writes DIR/stdin, calls for the replay program, and DIR/stdout, the answers it owes:
 //! the Rust's, and document 01's refusals. The port has no part in it.
 //!
 //! fx, stdin: the carrier table (1,024 i16), then calls of op, a, b. stdout: answers of refusal, x, y.
 //! Numbers of a call or an answer have 8 bytes; all are least byte first.
-//! sync, phase, demap, eq: calls and answers as README.md has them. Where the Rust cannot be asked the answers are the model's.
+//! sync, phase, demap, eq, frame: calls and answers as README.md has them. Where the Rust cannot be asked the answers are the model's.
 
 use cases::demap::kinds::KINDS as DEMAP_KINDS;
 use cases::demap::player as demap;
 use cases::eq::kinds::KINDS as EQ_KINDS;
 use cases::eq::player as eq;
+use cases::frame::kinds::KINDS as FRAME_KINDS;
+use cases::frame::player as frame;
 use cases::fx::{Answer, Function, Kind, FUNCTIONS};
 use cases::inputs::{self, Pair, Random, Size};
 use cases::phase::kinds::KINDS;
@@ -122,6 +124,19 @@ fn eq_files() -> Files {
     [("stdin", stdin), ("stdout", stdout)]
 }
 
+fn frame_files() -> Files {
+    let (mut stdin, mut stdout) = (Vec::new(), Vec::new());
+    let mut sink = |calls: Vec<u8>, owed: Vec<frame::Owed>| {
+        stdin.extend(calls);
+        stdout.extend(owed.iter().flat_map(|o| o.told).flat_map(u64::to_le_bytes));
+    };
+    let mut player = frame::Player::new(SEED, &mut sink);
+    let mut random = Random(SEED);
+    FRAME_KINDS.iter().for_each(|kind| (kind.play)(&mut player, &mut random, Size::Sample));
+    player.end();
+    [("stdin", stdin), ("stdout", stdout)]
+}
+
 fn fx_files() -> Files {
     let mut random = Random(SEED);
     let table = inputs::cosine_table();
@@ -138,7 +153,7 @@ fn fx_files() -> Files {
 }
 
 fn usage() -> ! {
-    eprintln!("usage: vectors fx|sync|phase|demap|eq DIR");
+    eprintln!("usage: vectors fx|sync|phase|demap|eq|frame DIR");
     std::process::exit(2)
 }
 
@@ -151,6 +166,7 @@ fn main() -> std::io::Result<()> {
         "phase" => phase_files(),
         "demap" => demap_files(),
         "eq" => eq_files(),
+        "frame" => frame_files(),
         _ => usage(),
     };
     for (name, bytes) in files {

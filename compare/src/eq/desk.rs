@@ -29,11 +29,11 @@ fn digest(entries: impl Iterator<Item = i64>) -> u64 {
     entries.fold(0, |d, v| mixed(d, v as u64))
 }
 
-fn of_pairs(l: &Pairs) -> u64 {
+pub(crate) fn of_pairs(l: &Pairs) -> u64 {
     digest(l.iter().map(|&v| v.into()))
 }
 
-fn of_sums(s: &Sums) -> [u64; 4] {
+pub(crate) fn of_sums(s: &Sums) -> [u64; 4] {
     [s.frame.into(), s.count.into(), digest(s.r.iter().copied()), digest(s.p.iter().copied())]
 }
 

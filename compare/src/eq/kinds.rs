@@ -30,7 +30,7 @@ pub const KINDS: [Kind; 16] = [
     Kind { name: "close calls", play: close_calls },
 ];
 
-fn times(size: Size, sample: u64, short: u64, full: u64) -> std::ops::Range<u64> {
+pub(crate) fn times(size: Size, sample: u64, short: u64, full: u64) -> std::ops::Range<u64> {
     0..match size {
         Size::Sample => sample,
         Size::Short => short,
@@ -49,12 +49,12 @@ fn any_part(r: &mut Random) -> i16 {
     }
 }
 
-fn any_symbol(r: &mut Random) -> [i16; 2] {
+pub(crate) fn any_symbol(r: &mut Random) -> [i16; 2] {
     [any_part(r), any_part(r)]
 }
 
 /// As they come from `part`, or such as a trained equaliser has.
-fn any_taps(r: &mut Random) -> Pairs {
+pub(crate) fn any_taps(r: &mut Random) -> Pairs {
     match r.below(6) {
         0 => [0; 22].map(|_: i16| pick(r, &[-32_768, 32_767])),
         1 => [-32_768; 22],
@@ -69,7 +69,7 @@ fn any_taps(r: &mut Random) -> Pairs {
     }
 }
 
-fn any_frame(r: &mut Random) -> u32 {
+pub(crate) fn any_frame(r: &mut Random) -> u32 {
     if r.below(3) == 0 {
         pick(r, &[0, 1, u32::MAX])
     } else {
@@ -100,7 +100,7 @@ fn any_sums(r: &mut Random) -> Sums {
 }
 
 /// In range.
-fn any_state(r: &mut Random) -> Equaliser {
+pub(crate) fn any_state(r: &mut Random) -> Equaliser {
     let filled = if r.below(2) == 0 { 11 } else { r.below(12) as u32 };
     let mut line = [0; 22].map(|_: i16| any_part(r));
     if r.below(3) != 0 {

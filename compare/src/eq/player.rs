@@ -89,11 +89,11 @@ struct Beside {
     base: Sums,
 }
 
-fn pairs(l: &Pairs) -> [[i16; 2]; 11] {
+pub(crate) fn pairs(l: &Pairs) -> [[i16; 2]; 11] {
     std::array::from_fn(|k| [l[2 * k], l[2 * k + 1]])
 }
 
-fn rust_sums(s: &Sums) -> rust::Sums {
+pub(crate) fn rust_sums(s: &Sums) -> rust::Sums {
     let (frame, count) = (s.frame, s.count);
     let pairs = |l: &[i64]| l.chunks(2).map(|v| [v[0], v[1]]).collect();
     rust::Sums { frame, count, r: pairs(&s.r), p: pairs(&s.p) }
@@ -164,7 +164,7 @@ impl Beside {
 }
 
 #[track_caller]
-fn agree<T: PartialEq + Debug>(model: T, rust: T) {
+pub(crate) fn agree<T: PartialEq + Debug>(model: T, rust: T) {
     assert!(model == rust, "THE MODEL DIFFERS FROM THE RUST: {model:?} from {rust:?}");
 }
 

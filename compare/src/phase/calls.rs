@@ -139,40 +139,31 @@ impl Answer {
                 row.put(next.is_some().into());
                 next.iter().for_each(|head| row.head(head));
             }
-            Answer::Corrected(c) => {
-                row.put(c.at);
-                row.put(c.word as u64);
-                row.slot(c.slot);
-                row.put(c.j.into());
-                row.pair(c.r);
-                row.put(c.phi.into());
-                row.put(c.gain as u64);
-                row.pair(c.y);
-            }
+            Answer::Corrected(c) => row.corrected(&c),
         }
         row.numbers
     }
 }
 
 /// Numbers, filled from the front.
-struct Row {
-    numbers: Numbers,
+pub(crate) struct Row {
+    pub(crate) numbers: Numbers,
     used: usize,
 }
 
 impl Row {
-    fn new(first: u64) -> Self {
+    pub(crate) fn new(first: u64) -> Self {
         let mut row = Self { numbers: [0; 24], used: 0 };
         row.put(first);
         row
     }
 
-    fn put(&mut self, v: u64) {
+    pub(crate) fn put(&mut self, v: u64) {
         self.numbers[self.used] = v;
         self.used += 1;
     }
 
-    fn pair(&mut self, pair: [i16; 2]) {
+    pub(crate) fn pair(&mut self, pair: [i16; 2]) {
         pair.iter().for_each(|&v| self.put(i64::from(v) as u64));
     }
 
@@ -184,7 +175,7 @@ impl Row {
         [last.into(), sum as u64, steps.into()].iter().for_each(|&v| self.put(v));
     }
 
-    fn slot(&mut self, slot: Option<(u8, u32)>) {
+    pub(crate) fn slot(&mut self, slot: Option<(u8, u32)>) {
         let (number, frame) = slot.unwrap_or((0, 0));
         [slot.is_some().into(), number.into(), frame.into()].iter().for_each(|&v| self.put(v));
     }
@@ -199,6 +190,17 @@ impl Row {
         self.put(head.nco_phase.into());
     }
 
+    pub(crate) fn corrected(&mut self, c: &Corrected) {
+        self.put(c.at);
+        self.put(c.word as u64);
+        self.slot(c.slot);
+        self.put(c.j.into());
+        self.pair(c.r);
+        self.put(c.phi.into());
+        self.put(c.gain as u64);
+        self.pair(c.y);
+    }
+
     /// Without a slot nothing but that is put.
     fn phase(&mut self, phase: &Phase) {
         self.put(phase.is_some().into());
@@ -210,18 +212,23 @@ impl Row {
 }
 
 /// Reads fields from the front.
-struct Fields<'a> {
+pub(crate) struct Fields<'a> {
     numbers: &'a Numbers,
     used: usize,
 }
 
-impl Fields<'_> {
-    fn get(&mut self) -> u64 {
+impl<'a> Fields<'a> {
+    /// Behind the number that tells which call it is.
+    pub(crate) fn of_call(numbers: &'a Numbers) -> Self {
+        Self { numbers, used: 1 }
+    }
+
+    pub(crate) fn get(&mut self) -> u64 {
         self.used += 1;
         self.numbers[self.used - 1]
     }
 
-    fn flag(&mut self) -> bool {
+    pub(crate) fn flag(&mut self) -> bool {
         self.get() != 0
     }
 
@@ -231,13 +238,33 @@ impl Fields<'_> {
         Nco { phase, freq, trail: known.then_some(steps) }
     }
 
+    fn word(&mut self) -> Word {
+        [Word::Ssync, Word::Fsync, Word::NotFsync][self.get().min(2) as usize]
+    }
+
+    fn slot(&mut self) -> Option<(u8, u32)> {
+        let known = self.flag();
+        let slot = (self.get() as u8, self.get() as u32);
+        known.then_some(slot)
+    }
+
+    fn pair(&mut self) -> [i16; 2] {
+        [self.get() as i16, self.get() as i16]
+    }
+
+    pub(crate) fn corrected(&mut self) -> Corrected {
+        let (at, word, slot, j) = (self.get(), self.word(), self.slot(), self.get() as u16);
+        let (r, phi, gain) = (self.pair(), self.get() as u32, self.get() as i64);
+        Corrected { at, word, slot, j, r, phi, gain, y: self.pair() }
+    }
+
     fn head(&mut self) -> Head {
         let at = self.get();
-        let word = [Word::Ssync, Word::Fsync, Word::NotFsync][self.get().min(2) as usize];
-        let (theta, amp, known) = (self.get() as u32, self.get() as i64, self.flag());
-        let slot = (self.get() as u8, self.get() as u32);
+        let word = self.word();
+        let (theta, amp) = (self.get() as u32, self.get() as i64);
+        let slot = self.slot();
         let corr = [self.get() as i32, self.get() as i32];
-        Head { at, word, theta, amp, slot: known.then_some(slot), corr, nco_phase: self.get() as u32 }
+        Head { at, word, theta, amp, slot, corr, nco_phase: self.get() as u32 }
     }
 
     fn phase(&mut self) -> Phase {
@@ -249,10 +276,29 @@ impl Fields<'_> {
 
 /// What a number of a call is read as.
 #[derive(Clone, Copy)]
-enum Field {
+pub(crate) enum Field {
     Bits(u32),
     Flag,
     Word,
+}
+
+/// The same call in other numbers: something above each field, another number for a flag that is on, and anything where
+/// nothing is read.
+pub(crate) fn disguised(mut numbers: Numbers, fields: &[Field], random: &mut Random) -> Numbers {
+    let mut read = fields.iter();
+    for number in &mut numbers[1..] {
+        let noise = random.next();
+        *number = match read.next() {
+            Some(Field::Bits(64)) => *number,
+            Some(Field::Bits(n)) => *number & ((1 << n) - 1) | noise << n,
+            Some(Field::Flag) if *number == 0 => 0,
+            Some(Field::Flag) => noise.max(1),
+            Some(Field::Word) if *number < 2 => *number,
+            Some(Field::Word) => noise.max(2),
+            None => noise,
+        };
+    }
+    numbers
 }
 
 const HEAD: [Field; 10] = [
@@ -337,7 +383,7 @@ impl Call {
 
     /// None for a call that there is not.
     pub fn of_numbers(numbers: &Numbers) -> Option<Self> {
-        let mut f = Fields { numbers, used: 1 };
+        let mut f = Fields::of_call(numbers);
         Some(match numbers[0] {
             0 => Call::TableDigest,
             1 => Call::StoreDigest,
@@ -384,24 +430,8 @@ impl Call {
         }
     }
 
-    /// The same call in other numbers: something above each field, another number for a flag that is on, and anything
-    /// where nothing is read.
+    /// As `disguised` says.
     pub fn in_disguise(&self, random: &mut Random) -> Numbers {
-        let mut numbers = self.numbers();
-        let fields = self.fields();
-        let mut read = fields.iter();
-        for number in &mut numbers[1..] {
-            let noise = random.next();
-            *number = match read.next() {
-                Some(Field::Bits(64)) => *number,
-                Some(Field::Bits(n)) => *number & ((1 << n) - 1) | noise << n,
-                Some(Field::Flag) if *number == 0 => 0,
-                Some(Field::Flag) => noise.max(1),
-                Some(Field::Word) if *number < 2 => *number,
-                Some(Field::Word) => noise.max(2),
-                None => noise,
-            };
-        }
-        numbers
+        disguised(self.numbers(), &self.fields(), random)
     }
 }

@@ -196,7 +196,7 @@ impl<'a> Player<'a> {
     }
 }
 
-fn rust_word(word: Word) -> rust_sync::Word {
+pub(crate) fn rust_word(word: Word) -> rust_sync::Word {
     match word {
         Word::Ssync => rust_sync::Word::Ssync,
         Word::Fsync => rust_sync::Word::Fsync,
