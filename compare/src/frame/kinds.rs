@@ -4,7 +4,7 @@ use super::calls::{Call, Ones};
 use super::model::{LATE, RULES, TOP, WIDE};
 use super::player::{Player, FRAME};
 use super::PLACES;
-use crate::eq::calls::{Call as EqCall, Equaliser};
+use crate::eq::calls::Call as EqCall;
 use crate::eq::kinds::{any_frame, any_state, any_symbol, any_taps, times};
 use crate::eq::model::LIMIT;
 use crate::inputs::{pick, Random, Size};
@@ -201,23 +201,24 @@ fn limits(p: &mut Player, r: &mut Random, size: Size) {
     }
 }
 
+/// So many sync symbols from a start with sums open, whose count is then another; they may be closed.
+fn counted(p: &mut Player, r: &mut Random, symbols: i64, count: u32, opened: bool) {
+    start(p, r);
+    p.refused(Call::Eq(EqCall::Open { frame: 7 }), 0);
+    for _ in 0..symbols {
+        let c = Corrected { j: r.below(24) as u16, ..any_corrected(r, next_at(p)) };
+        p.refused(Call::Push(c), 0);
+    }
+    let (filled, from) = (p.eq().filled, p.eq().from);
+    p.refused(Call::Eq(EqCall::PutNumbers { filled, from, opened, frame: 7, count }), 0);
+}
+
 /// A full count is refused where a training would be added, and only there: an aligned sync symbol, sums open, eleven in the
 /// line, no gap.
 fn counts(p: &mut Player, r: &mut Random, size: Size) {
     for turn in times(size, 10, 400, 10_000) {
-        start(p, r);
-        p.refused(Call::Eq(EqCall::Open { frame: 7 }), 0);
-        let fill = if turn % 5 == 3 { 6 + r.below(4) as u64 } else { 10 + r.below(6) as u64 };
-        for _ in 0..fill {
-            let c = Corrected { j: r.below(24) as u16, ..any_corrected(r, next_at(p)) };
-            p.refused(Call::Push(c), 0);
-        }
-        let e = *p.eq();
-        let count = if turn % 5 == 4 { LIMIT - 1 } else { LIMIT };
-        let numbers = |e: Equaliser, opened| {
-            Call::Eq(EqCall::PutNumbers { filled: e.filled, from: e.from, opened, frame: e.sums.frame, count })
-        };
-        p.refused(numbers(e, turn % 5 != 1), 0);
+        let symbols = if turn % 5 == 3 { 6 + r.below(4) } else { 10 + r.below(6) };
+        counted(p, r, symbols, if turn % 5 == 4 { LIMIT - 1 } else { LIMIT }, turn % 5 != 1);
         let c = any_corrected(r, next_at(p));
         match turn % 5 {
             0 => {
@@ -227,17 +228,15 @@ fn counts(p: &mut Player, r: &mut Random, size: Size) {
                 // a gap drops the sums
                 p.refused(Call::Push(Corrected { at: c.at + 1, ..c }), 0);
             }
-            // no sums open
-            1 => p.refused(Call::Push(c), 0),
-            // none of a sync symbol
+            // no sums open; ten in the line, with this one
+            1 | 3 => p.refused(Call::Push(c), 0),
+            // no sync symbol
             2 => {
                 for place in p.desk().line.places.clone() {
                     p.refused(Call::MoveUp(Corrected { j: 24 + place.j, ..place }), 0);
                 }
                 p.refused(Call::Push(c), 0);
             }
-            // ten in the line, with this one
-            3 => p.refused(Call::Push(c), 0),
             // one more has room
             _ => {
                 p.refused(Call::Push(c), 0);
