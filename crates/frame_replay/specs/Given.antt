@@ -8,24 +8,14 @@ use lib.ListN.{getD}
 use Rattle.laws.specs.Choice.{if_then_else_}
 use Rattle.laws.specs.Ranges.{firsts}
 use Rattle.angles.specs.declared.Symbol.{Symbol}
-use Rattle.sync_heads.specs.declared.Word.{Word}
-use Rattle.sync_heads.specs.declared.Word.the-variants.{Ssync, Fsync, NotFsync}
-use Rattle.sync_heads.specs.declared.Slot.{Slot}
-use Rattle.sync_heads.specs.declared.Slot.the-variants.{Unknown, In}
 use Rattle.phase.specs.declared.Corrected.{Corrected}
 use Rattle.frame_line.specs.declared.Meta.{Meta}
 use Rattle.frame_line.specs.declared.Metas.{Metas}
 use Rattle.frame_line.specs.declared.LastAt.{LastAt}
 use Rattle.frame_line.specs.declared.LastAt.the-variants.{Never, At}
 use Rattle.wire.specs.Wire.{signed}
+use Rattle.slot_wire.specs.Slots.{wordOf, slotOf}
 use Rattle.eq_calls.specs.Given.{at, at32, signed16, signed64}
-
-unfoldable pub wordOf : ℕ → Word
-wordOf n = if eqb n 0 then Ssync else if eqb n 1 then Fsync else NotFsync
-
--- three numbers: whether the slot is known, its number, its frame
-unfoldable pub slotOf : List ℕ → ℕ → Slot
-slotOf p k = if eqb (at p k) 0 then Unknown else In (at p (k + 1) % 2 ^ 8) (at32 p (k + 2))
 
 unfoldable pub symbolOf : List ℕ → ℕ → Symbol
 symbolOf p k = record { i = signed16 p k; q = signed16 p (k + 1) }

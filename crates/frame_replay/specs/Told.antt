@@ -2,32 +2,20 @@
 use Prim.Native.Nat.{ℕ}
 use mathlib.Core.List.{List, [], _∷_}
 use Rattle.eq.specs.declared.Equaliser.{Equaliser}
-use Rattle.sync_heads.specs.declared.Word.{Word}
-use Rattle.sync_heads.specs.declared.Word.the-variants.{Ssync, Fsync, NotFsync}
-use Rattle.sync_heads.specs.declared.Slot.{Slot}
-use Rattle.sync_heads.specs.declared.Slot.the-variants.{Unknown, In}
 use Rattle.frame_line.specs.declared.Meta.{Meta}
 use Rattle.frame_line.specs.declared.LastAt.{LastAt}
 use Rattle.frame_line.specs.declared.LastAt.the-variants.{Never, At}
 use Rattle.wire.specs.Digest.{digestOf}
+use Rattle.slot_wire.specs.Slots.{wordNumber, slotShown}
 use Rattle.eq_calls.specs.Told.{flagOf, fromShown, sumsShown}
 use Rattle.frame_replay.specs.declared.kept.Kept.{Kept}
-use Rattle.frame_replay.specs.declared.told.Shown.{Shown}
+use Rattle.frame_replay.specs.declared.told.LastShown.{LastShown}
 use Rattle.frame_replay.specs.declared.told.EqShown.{EqShown}
 
-unfoldable pub wordNumber : Word → ℕ
-wordNumber Ssync = 0
-wordNumber Fsync = 1
-wordNumber NotFsync = 2
-
--- what may be absent: whether it is there, and its numbers
-unfoldable pub slotShown : Slot → Shown
-slotShown Unknown = record { known = 0; first = 0; second = 0 }
-slotShown (In number frame) = record { known = 1; first = number; second = frame }
-
-unfoldable pub lastShown : LastAt → Shown
-lastShown Never = record { known = 0; first = 0; second = 0 }
-lastShown (At a) = record { known = 1; first = a; second = 0 }
+-- whether there is a last position, and that position
+unfoldable pub lastShown : LastAt → LastShown
+lastShown Never = record { known = 0; at = 0 }
+lastShown (At a) = record { known = 1; at = a }
 
 unfoldable pub eqShown : Equaliser → EqShown
 eqShown e =
@@ -53,12 +41,12 @@ toldOf k refusal given m i q =
     ∷ m .at
     ∷ wordNumber (m .word)
     ∷ s .known
-    ∷ s .first
-    ∷ s .second
+    ∷ s .number
+    ∷ s .frame
     ∷ m .j
     ∷ k .back .metas .count
     ∷ l .known
-    ∷ l .first
+    ∷ l .at
     ∷ x .line
     ∷ x .filled
     ∷ x .taps

@@ -4,37 +4,11 @@ use frame_line::LastAt;
 use frame_line::Meta;
 use frame_line::Metas;
 use phase::Corrected;
-use sync_heads::Slot;
-use sync_heads::Word;
 ghost use mathlib.Core.Path.{_≡_};
 ghost use Prim.Native.Nat.{_+_, _≤_, _%_, _^_};
 ghost use lib.ListN.{length};
 ghost use Rattle.wire.specs.Wire.{signed};
-ghost use Rattle.frame_replay.specs.Given.{wordOf, slotOf, symbolOf, metaAt, correctedOf, onesAt, lastOf, countPut};
-
-fn word_of(n: u64) -> Word
-    ensures { λ r. ⌜ r ≡ wordOf n ⌝ }
-{
-    match n {
-        0 => Word::Ssync,
-        1 => Word::Fsync,
-        _ => Word::NotFsync,
-    }
-}
-
-fn slot_at(p: &[u64; 24], k: usize) -> Slot
-    requires { ⌜ k + 3 ≤ 24 ⌝ }
-    ensures { λ r. ⌜ r ≡ slotOf (now (p .entry)) k ⌝ }
-{
-    if p[k] == 0 {
-        Slot::Unknown
-    } else {
-        Slot::In {
-            number: wire::low8(p[k + 1]),
-            frame: wire::low32(p[k + 2]),
-        }
-    }
-}
+ghost use Rattle.frame_replay.specs.Given.{symbolOf, metaAt, correctedOf, onesAt, lastOf, countPut};
 
 fn symbol_at(p: &[u64; 24], k: usize) -> Symbol
     requires { ⌜ k + 2 ≤ 24 ⌝ }
@@ -57,8 +31,8 @@ pub(crate) fn meta_at(p: &[u64; 24], k: usize) -> Meta
     requires { ⌜ k + 6 ≤ 24 ⌝ }
     ensures { λ r. ⌜ r ≡ metaAt (now (p .entry)) k ⌝ }
 {
-    let w = word_of(p[k + 1]);
-    let s = slot_at(p, k + 2);
+    let w = slot_wire::word_of(p[k + 1]);
+    let s = slot_wire::ranged::slot_at(p, k + 2);
     Meta {
         at: p[k],
         j: low16(p[k + 5]),

@@ -5,59 +5,21 @@ use eq_calls::told::Digests;
 use eq_calls::told::From;
 use frame_line::LastAt;
 use frame_line::Meta;
-use sync_heads::Slot;
-use sync_heads::Word;
 ghost use mathlib.Core.Path.{_≡_};
-ghost use Rattle.frame_replay.specs.Told.{wordNumber, slotShown, lastShown, eqShown, toldOf};
+ghost use Rattle.frame_replay.specs.Told.{lastShown, eqShown, toldOf};
 
-// What may be absent: whether it is there, and its numbers.
-pub struct Shown {
+// Whether there is a last position, and that position.
+pub struct LastShown {
     pub known: u64,
-    pub first: u64,
-    pub second: u64,
+    pub at: u64,
 }
 
-fn word_number(w: Word) -> u64
-    ensures { λ r. ⌜ r ≡ wordNumber w ⌝ }
-{
-    match w {
-        Word::Ssync => 0,
-        Word::Fsync => 1,
-        Word::NotFsync => 2,
-    }
-}
-
-fn slot_shown(s: Slot) -> Shown
-    ensures { λ r. ⌜ r ≡ slotShown s ⌝ }
-{
-    match s {
-        Slot::Unknown => Shown {
-            known: 0,
-            first: 0,
-            second: 0,
-        },
-        Slot::In { number, frame } => Shown {
-            known: 1,
-            first: number as u64,
-            second: frame as u64,
-        },
-    }
-}
-
-fn last_shown(l: LastAt) -> Shown
+fn last_shown(l: LastAt) -> LastShown
     ensures { λ r. ⌜ r ≡ lastShown l ⌝ }
 {
     match l {
-        LastAt::Never => Shown {
-            known: 0,
-            first: 0,
-            second: 0,
-        },
-        LastAt::At(a) => Shown {
-            known: 1,
-            first: a,
-            second: 0,
-        },
+        LastAt::Never => LastShown { known: 0, at: 0 },
+        LastAt::At(a) => LastShown { known: 1, at: a },
     }
 }
 
@@ -102,7 +64,7 @@ pub(crate) fn told(k: Kept, refusal: u8, given: u64, m: Meta, i: u64, q: u64) ->
     let last = b.last;
     let word = m.word;
     let slot = m.slot;
-    let s = slot_shown(slot);
+    let s = slot_wire::slot_shown(slot);
     let l = last_shown(last);
     let x = eq_shown(e);
     [
@@ -111,14 +73,14 @@ pub(crate) fn told(k: Kept, refusal: u8, given: u64, m: Meta, i: u64, q: u64) ->
         i,
         q,
         m.at,
-        word_number(word),
+        slot_wire::word_number(word),
         s.known,
-        s.first,
-        s.second,
+        s.number,
+        s.frame,
         m.j as u64,
         b.metas.count as u64,
         l.known,
-        l.first,
+        l.at,
         x.line,
         x.filled,
         x.taps,

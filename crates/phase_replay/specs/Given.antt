@@ -7,10 +7,6 @@ use lib.IntN.{ℤ}
 use lib.ListN.{getD}
 use Rattle.laws.specs.Choice.{if_then_else_}
 use Rattle.sync_corr.specs.declared.Corr.{Corr}
-use Rattle.sync_heads.specs.declared.Word.{Word}
-use Rattle.sync_heads.specs.declared.Word.the-variants.{Ssync, Fsync, NotFsync}
-use Rattle.sync_heads.specs.declared.Slot.{Slot}
-use Rattle.sync_heads.specs.declared.Slot.the-variants.{Unknown, In}
 use Rattle.sync_heads.specs.declared.Head.{Head}
 use Rattle.carrier.specs.declared.Trail.{Trail}
 use Rattle.carrier.specs.declared.Trail.the-variants.{Empty, Since}
@@ -19,6 +15,7 @@ use Rattle.phase.specs.declared.SlotPhase.{SlotPhase}
 use Rattle.phase.specs.declared.SlotPhase.the-variants.{Idle, Holds}
 use Rattle.phase.specs.declared.WholeSlot.{WholeSlot}
 use Rattle.wire.specs.Wire.{signed}
+use Rattle.slot_wire.specs.Slots.{wordOf, slotOf}
 
 -- number k; as fields of 8 and 32 bits; and as signed fields of 8, 16, 32 and 64 bits
 abbrev pub at : List ℕ → ℕ → ℕ
@@ -50,12 +47,6 @@ unfoldable pub ncoOf : List ℕ → Nco
 ncoOf p = record { phase = at32 p 1; freq = signed32 p 2; trail = trailOf p }
 
 -- ---- a head, ten numbers from k on: position, word, angle, magnitude, whether its slot is known, slot and frame number, correlation, phase
-unfoldable pub wordOf : ℕ → Word
-wordOf n = if eqb n 0 then Ssync else if eqb n 1 then Fsync else NotFsync
-
-unfoldable pub slotOf : List ℕ → ℕ → Slot
-slotOf p k = if eqb (at p k) 0 then Unknown else In (at8 p (k + 1)) (at32 p (k + 2))
-
 unfoldable pub corrOf : List ℕ → ℕ → Corr
 corrOf p k = record { re = signed32 p k; im = signed32 p (k + 1) }
 

@@ -4,10 +4,6 @@ use mathlib.Core.List.{List, [], _∷_, _++_}
 use lib.ListN.{replicate}
 use Rattle.fx.specs.declared.Whole.{Whole}
 use Rattle.fx.specs.declared.Whole.the-variants.{Value, Refused as WholeRefused}
-use Rattle.sync_heads.specs.declared.Word.{Word}
-use Rattle.sync_heads.specs.declared.Word.the-variants.{Ssync, Fsync, NotFsync}
-use Rattle.sync_heads.specs.declared.Slot.{Slot}
-use Rattle.sync_heads.specs.declared.Slot.the-variants.{Unknown, In}
 use Rattle.sync_heads.specs.declared.Head.{Head}
 use Rattle.carrier.specs.declared.Trail.{Trail}
 use Rattle.carrier.specs.declared.Trail.the-variants.{Empty, Since}
@@ -21,20 +17,12 @@ use Rattle.phase.specs.declared.Answered.{Answered}
 use Rattle.phase.specs.declared.Answered.the-variants.{Given, Refused}
 use Rattle.phase_replay.specs.declared.told.Shown.{Shown}
 use Rattle.wire.specs.Wire.{bits}
-
-unfoldable pub wordNumber : Word → ℕ
-wordNumber Ssync = 0
-wordNumber Fsync = 1
-wordNumber NotFsync = 2
+use Rattle.slot_wire.specs.Slots.{wordNumber, slotShown}
 
 -- ---- what may be absent: whether it is there, and its numbers
 unfoldable pub trailShown : Trail → Shown
 trailShown Empty = record { known = 0; first = 0; second = 0; third = 0 }
 trailShown (Since s) = record { known = 1; first = s .«last_ss»; second = bits (s .sum); third = s .steps }
-
-unfoldable pub slotShown : Slot → Shown
-slotShown Unknown = record { known = 0; first = 0; second = 0; third = 0 }
-slotShown (In number frame) = record { known = 1; first = number; second = frame; third = 0 }
 
 -- ---- a number alone
 unfoldable pub singleTold : ℕ → ℕ → List ℕ
@@ -57,8 +45,8 @@ headTold refusal h x y z =
     ∷ h .theta
     ∷ bits (h .amp)
     ∷ s .known
-    ∷ s .first
-    ∷ s .second
+    ∷ s .number
+    ∷ s .frame
     ∷ bits (h .corr .re)
     ∷ bits (h .corr .im)
     ∷ h .«nco_phase»
@@ -95,8 +83,8 @@ correctedTold c =
     ∷ c .at
     ∷ wordNumber (c .word)
     ∷ s .known
-    ∷ s .first
-    ∷ s .second
+    ∷ s .number
+    ∷ s .frame
     ∷ c .j
     ∷ bits (c .r .i)
     ∷ bits (c .r .q)

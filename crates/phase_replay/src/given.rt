@@ -7,11 +7,9 @@ use phase::SlotPhase;
 use phase::WholeSlot;
 use sync_corr::Corr;
 use sync_heads::Head;
-use sync_heads::Slot;
-use sync_heads::Word;
 ghost use mathlib.Core.Path.{_≡_};
 ghost use Prim.Native.Nat.{_+_, _≤_};
-ghost use Rattle.phase_replay.specs.Given.{at, trailOf, ncoOf, wordOf, slotOf, corrOf, headOf, stateOf, beside, wholeOf};
+ghost use Rattle.phase_replay.specs.Given.{at, trailOf, ncoOf, corrOf, headOf, stateOf, beside, wholeOf};
 
 fn trail_at(p: &[u64; 24]) -> Trail
     ensures { λ r. ⌜ r ≡ trailOf (now (p .entry)) ⌝ }
@@ -39,30 +37,6 @@ pub(crate) fn nco_at(p: &[u64; 24]) -> Nco
     }
 }
 
-fn word_of(n: u64) -> Word
-    ensures { λ r. ⌜ r ≡ wordOf n ⌝ }
-{
-    match n {
-        0 => Word::Ssync,
-        1 => Word::Fsync,
-        _ => Word::NotFsync,
-    }
-}
-
-fn slot_at(p: &[u64; 24], k: usize) -> Slot
-    requires { ⌜ k + 3 ≤ 24 ⌝ }
-    ensures { λ r. ⌜ r ≡ slotOf (now (p .entry)) k ⌝ }
-{
-    if p[k] == 0 {
-        Slot::Unknown
-    } else {
-        Slot::In {
-            number: wire::low8(p[k + 1]),
-            frame: wire::low32(p[k + 2]),
-        }
-    }
-}
-
 fn corr_at(p: &[u64; 24], k: usize) -> Corr
     requires { ⌜ k + 2 ≤ 24 ⌝ }
     ensures { λ r. ⌜ r ≡ corrOf (now (p .entry)) k ⌝ }
@@ -78,8 +52,8 @@ pub(crate) fn head_at(p: &[u64; 24], k: usize) -> Head
     requires { ⌜ k + 10 ≤ 24 ⌝ }
     ensures { λ r. ⌜ r ≡ headOf (now (p .entry)) k ⌝ }
 {
-    let w = word_of(p[k + 1]);
-    let s = slot_at(p, k + 4);
+    let w = slot_wire::word_of(p[k + 1]);
+    let s = slot_wire::ranged::slot_at(p, k + 4);
     let c = corr_at(p, k + 7);
     Head {
         at: p[k],

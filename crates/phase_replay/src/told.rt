@@ -7,10 +7,8 @@ use phase::Corrected;
 use phase::Due;
 use phase::SlotPhase;
 use sync_heads::Head;
-use sync_heads::Slot;
-use sync_heads::Word;
 ghost use mathlib.Core.Path.{_≡_};
-ghost use Rattle.phase_replay.specs.Told.{wordNumber, trailShown, slotShown, singleTold, ncoTold, headTold, stateTold, dueTold, nextTold, wholeTold, correctedTold, answeredTold};
+ghost use Rattle.phase_replay.specs.Told.{trailShown, singleTold, ncoTold, headTold, stateTold, dueTold, nextTold, wholeTold, correctedTold, answeredTold};
 
 // What may be absent: whether it is there, and its numbers.
 pub struct Shown {
@@ -18,16 +16,6 @@ pub struct Shown {
     pub first: u64,
     pub second: u64,
     pub third: u64,
-}
-
-fn word_number(w: Word) -> u64
-    ensures { λ r. ⌜ r ≡ wordNumber w ⌝ }
-{
-    match w {
-        Word::Ssync => 0,
-        Word::Fsync => 1,
-        Word::NotFsync => 2,
-    }
 }
 
 fn trail_shown(t: Trail) -> Shown
@@ -45,25 +33,6 @@ fn trail_shown(t: Trail) -> Shown
             first: s.last_ss as u64,
             second: wire::to_bits(s.sum),
             third: s.steps as u64,
-        },
-    }
-}
-
-fn slot_shown(s: Slot) -> Shown
-    ensures { λ r. ⌜ r ≡ slotShown s ⌝ }
-{
-    match s {
-        Slot::Unknown => Shown {
-            known: 0,
-            first: 0,
-            second: 0,
-            third: 0,
-        },
-        Slot::In { number, frame } => Shown {
-            known: 1,
-            first: number as u64,
-            second: frame as u64,
-            third: 0,
         },
     }
 }
@@ -141,17 +110,17 @@ fn head(refusal: u8, h: Head, x: u64, y: u64, z: u64) -> [u64; 24]
     let w = h.word;
     let c = h.corr;
     let t = h.slot;
-    let s = slot_shown(t);
+    let s = slot_wire::slot_shown(t);
     [
         refusal as u64,
         1,
         h.at,
-        word_number(w),
+        slot_wire::word_number(w),
         h.theta as u64,
         wire::to_bits(h.amp),
         s.known,
-        s.first,
-        s.second,
+        s.number,
+        s.frame,
         wire::bits32(c.re),
         wire::bits32(c.im),
         h.nco_phase as u64,
@@ -229,16 +198,16 @@ fn corrected(c: Corrected) -> [u64; 24]
 {
     let w = c.word;
     let t = c.slot;
-    let s = slot_shown(t);
+    let s = slot_wire::slot_shown(t);
     let r = c.r;
     let y = c.y;
     [
         0,
         c.at,
-        word_number(w),
+        slot_wire::word_number(w),
         s.known,
-        s.first,
-        s.second,
+        s.number,
+        s.frame,
         c.j as u64,
         wire::bits16(r.i),
         wire::bits16(r.q),

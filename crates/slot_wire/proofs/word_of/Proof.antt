@@ -1,9 +1,9 @@
--- `phase_replay::given::word_of` meets its contract. Assumes nothing.
-use Rattle.phase_replay.specs.Given.{wordOf}
+-- `slot_wire::word_of` meets its contract. Assumes nothing.
+use Rattle.slot_wire.specs.Slots.{wordOf}
 use Rattle.laws.specs.Choice.{cases, if-yes, if-no}
 use mathlib.Core.Path.{sym, _∙_, refl}
-use Rattle.phase_replay.proofs.given.word_of.Statement.{statement}
-use Rattle.phase_replay.proofs.given.word_of.Tie as tie
+use Rattle.slot_wire.proofs.word_of.Statement.{statement}
+use Rattle.slot_wire.proofs.word_of.Tie as tie
 
 returns : tie.Need-returns
 unfolding wordOf

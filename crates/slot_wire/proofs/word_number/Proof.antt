@@ -1,8 +1,8 @@
--- `frame_replay::told::word_number` meets its contract. Assumes nothing.
-use Rattle.frame_replay.specs.Told.{wordNumber}
+-- `slot_wire::word_number` meets its contract. Assumes nothing.
+use Rattle.slot_wire.specs.Slots.{wordNumber}
 use borrow.Author.Needs.{needs}
-use Rattle.frame_replay.proofs.told.word_number.Statement.{statement}
-use Rattle.frame_replay.proofs.told.word_number.Tie as tie
+use Rattle.slot_wire.proofs.word_number.Statement.{statement}
+use Rattle.slot_wire.proofs.word_number.Tie as tie
 
 enum-told : tie.Need-enum-told
 enum-told c = search needs

@@ -1,11 +1,11 @@
--- `phase_replay::given::slot_at` meets its contract. Assumes nothing.
-use Rattle.phase_replay.specs.Given.{slotOf}
+-- `slot_wire::ranged::slot_at` meets its contract. Assumes nothing.
+use Rattle.slot_wire.specs.Slots.{slotOf}
 use Rattle.laws.specs.Choice.{if-yes, if-no}
 use borrow.Author.Tests.{eq-eqb, ne-eqb}
 use mathlib.Core.Path.{sym}
 use borrow.Author.Needs.{needs}
-use Rattle.phase_replay.proofs.given.slot_at.Statement.{statement}
-use Rattle.phase_replay.proofs.given.slot_at.Tie as tie
+use Rattle.slot_wire.proofs.ranged.slot_at.Statement.{statement}
+use Rattle.slot_wire.proofs.ranged.slot_at.Tie as tie
 
 mul-if1 : tie.Need-mul-if1
 mul-if1 c = search needs

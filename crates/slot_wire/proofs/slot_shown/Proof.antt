@@ -1,8 +1,8 @@
--- `phase_replay::told::slot_shown` meets its contract. Assumes nothing.
-use Rattle.phase_replay.specs.Told.{slotShown}
+-- `slot_wire::slot_shown` meets its contract. Assumes nothing.
+use Rattle.slot_wire.specs.Slots.{slotShown}
 use borrow.Author.Needs.{needs}
-use Rattle.phase_replay.proofs.told.slot_shown.Statement.{statement}
-use Rattle.phase_replay.proofs.told.slot_shown.Tie as tie
+use Rattle.slot_wire.proofs.slot_shown.Statement.{statement}
+use Rattle.slot_wire.proofs.slot_shown.Tie as tie
 
 enum-told : tie.Need-enum-told
 enum-told c = search needs

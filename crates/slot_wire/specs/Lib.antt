@@ -1,0 +1,2 @@
+-- Words and slots as numbers.
+pub mod Slots
