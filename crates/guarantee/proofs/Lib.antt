@@ -6,3 +6,6 @@ pub mod Stretch
 pub mod Heads
 pub mod Taps
 pub mod Slots
+pub mod Accs
+pub mod Tied
+pub mod Taken

@@ -7,7 +7,7 @@ use Rattle.sync_step.specs.declared.Run.{Run}
 use Rattle.sync_tie.proofs.Follow.{follows}
 use Rattle.sync_tie.proofs.Theorems.{tie}
 use Rattle.sync_tie.specs.Pushes.{Push, noPush}
-use Rattle.sync_tie.specs.Story.{losesAt, recordAt, tells}
+use Rattle.sync_tie.specs.Story.{lockAt, losesAt, recordAt, tells}
 use Rattle.sync_tie.specs.Tie.{Held, Kept, begun, pushOn, pushes, stepOn}
 use Rattle.guarantee.proofs.Prefix.{kept-prefix, pushes-prefix}
 use borrow.Author.Tests.{le-leb, leb-true, ltb-false, ltb-true}
@@ -47,6 +47,10 @@ module _ (base : ℕ) (last : Record) (h : List Push) (p : Push) where
     step-events =
         let t = tie 9296 base last grown count (lit≤ tt) (omega (arith, grown-length)) kept-before .events in
         ap (λ (y : Held). stepOn 9296 y p .events) (sym same-before) ∙ ap (λ (q : Push). stepOn 9296 (pushes 9296 (begun 9296 base last) grown count) q .events) (sym newest) ∙ t
+
+    -- the lock, as the grown stretch has it
+    pub lock-now : before .sync .run .lock ≡ lockAt 9296 base last grown (count - 23)
+    lock-now = ap (λ (y : Held). y .sync .run .lock) (sym same-before) ∙ tie 9296 base last grown count (lit≤ tt) (omega (arith, grown-length)) kept-before .lock
 
     pub step-next : pushOn 9296 before p ≡ pushes 9296 (begun 9296 base last) grown (suc count)
     unfolding pushes

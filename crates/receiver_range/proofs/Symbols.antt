@@ -163,7 +163,7 @@ module _ (r : Receiver) (x : Input) (l : Lent) (c : CoherentReceiver r) where
       (λ t. rw (t, slot-below (r .front .phase) (heads 9296 r x l .due) due-fits (leb-false (2 ^ 62) (nextOf r) t)))
 
   -- ---- slot sync
-  turned : SymbolFits x l → PushFits Bounds.rotated (rotated 9296 r x l .i) (rotated 9296 r x l .q) (l .acc)
+  pub turned : SymbolFits x l → PushFits Bounds.rotated (rotated 9296 r x l .i) (rotated 9296 r x l .q) (l .acc)
   unfolding rotated
   turned f =
       let z = rotated-small (x .table) (r .front .nco .phase) (x .xi) (x .xq) (λ j k. fits-size w16 (getD (x .table) j (pos 0)) (f .table j k)) (fits-size w8 (x .xi) (f .xi))
