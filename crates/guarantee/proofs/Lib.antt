@@ -9,3 +9,4 @@ pub mod Slots
 pub mod Accs
 pub mod Tied
 pub mod Taken
+pub mod Refusals

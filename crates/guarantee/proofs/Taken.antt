@@ -93,12 +93,12 @@ module _ (s : System) (h : History) (t : Tied s h) (x : Input) (soft : List ℤ)
   abbrev m : ℕ
   m = length (h .pushes)
 
-  module _ (a : Takes r x l) (room : full 9296 r x l ≡ false) where
-    -- the trainings are the history's
-    trainings-are : trainingsBy (toldIn h) (anyHead (synced 9296 r x l .events)) ≡ trainingsWith h x
-    unfolding trainingsBy trainingsWith
-    trainings-are = ap (λ (es : Events). trainingsBy (toldIn h) (anyHead es)) (events-are s h t x soft)
+  -- the trainings are the history's
+  pub trainings-are : trainingsBy (toldIn h) (anyHead (synced 9296 r x l .events)) ≡ trainingsWith h x
+  unfolding trainingsBy trainingsWith
+  trainings-are = ap (λ (es : Events). trainingsBy (toldIn h) (anyHead es)) (events-are s h t x soft)
 
+  module _ (a : Takes r x l) (room : full 9296 r x l ≡ false) where
     store-long : length (storeAfter 9296 r x l) ≡ 18592
     unfolding storeAfter
     store-long =
@@ -202,6 +202,7 @@ module _ (s : System) (h : History) (t : Tied s h) (x : Input) (soft : List ℤ)
           ap₂ (λ (v : Receiver) (u : List ℕ). record { receiver = v; acc = u; store = storeAfter 9296 r x l }) i zeros-are
 
       pub lost-tied : Tied (record { receiver = receiverAfter 9296 r x l; acc = accAfter 9296 r x l; store = storeAfter 9296 r x l }) (beginsWith (nextIn h + 1) (keptOver h x))
+      unfolding begins
       lost-tied =
           subst (λ (y : System). Tied y (beginsWith (nextIn h + 1) (keptOver h x))) (sym lost-system)
           (begins-tied (nextIn h + 1) (keptOver h x) (storeAfter 9296 r x l) store-long
