@@ -10,3 +10,4 @@ pub mod Accs
 pub mod Tied
 pub mod Taken
 pub mod Refusals
+pub mod Follow

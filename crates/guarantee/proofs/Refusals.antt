@@ -64,7 +64,7 @@ module _ (s : System) (h : History) (t : Tied s h) (x : Input) (soft : List ℤ)
   unfolding storesFit
   own-fit = rw (eq-eqb (length (s .acc)) 9296 (acc-long s h t), eq-eqb (length (s .store)) 18592 (t .store))
 
-  own-refusal : symbolRefusal r x l ≡ refusalIn h (symbol x own own soft)
+  pub own-refusal : symbolRefusal r x l ≡ refusalIn h (symbol x own own soft)
   unfolding symbolRefusal refusalIn ownAcc ownStore
   own-refusal =
       let ones = onesOf (x .f) && onesOf (x .s) in
@@ -84,7 +84,7 @@ module _ (s : System) (h : History) (t : Tied s h) (x : Input) (soft : List ℤ)
       (λ a. refl)
 
 -- ---- stores that give 1
-wrong-fit : (s : System) (a : Accumulators) (b : SlotStore) (soft : List ℤ) → (ownAcc a && ownStore b) ≡ false → storesFit (lentTo s a b soft) ≡ false
+pub wrong-fit : (s : System) (a : Accumulators) (b : SlotStore) (soft : List ℤ) → (ownAcc a && ownStore b) ≡ false → storesFit (lentTo s a b soft) ≡ false
 unfolding storesFit lentTo handedAcc handedStore ownAcc ownStore
 wrong-fit s own own soft e = absurd (never e)
 wrong-fit s own (wrong store d) soft e = and-no (eqb (length (s .acc)) 9296) (eqb (length store) 18592) (leb 44880 (length soft)) (no-right (eqb (length (s .acc)) 9296) d)

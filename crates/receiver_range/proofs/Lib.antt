@@ -7,3 +7,4 @@ pub mod Tells
 pub mod Events
 pub mod Heads
 pub mod Symbols
+pub mod Theorems
