@@ -197,7 +197,7 @@ wrong-any : (acc : List ℕ) (e : eqb (length acc) 9296 ≡ false) (b : SlotStor
 unfolding ownAcc
 wrong-any acc e b = refl
 
-symbol-steps : (s : System) (h : History) (x : Input) (a : Accumulators) (b : SlotStore) (soft : List ℤ) → Tied s h → InputFits x → Steps s h (symbol x a b soft)
+pub symbol-steps : (s : System) (h : History) (x : Input) (a : Accumulators) (b : SlotStore) (soft : List ℤ) → Tied s h → InputFits x → Steps s h (symbol x a b soft)
 symbol-steps s h x own own soft t f = own-steps s h t x soft f
 symbol-steps s h x own (wrong store e) soft t f = wrong-steps s h t x own (wrong store e) soft (own-wrong store e)
 symbol-steps s h x (wrong acc e) b soft t f = wrong-steps s h t x (wrong acc e) b soft (wrong-any acc e b)

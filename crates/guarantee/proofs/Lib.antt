@@ -11,3 +11,5 @@ pub mod Tied
 pub mod Taken
 pub mod Refusals
 pub mod Follow
+pub mod Loads
+pub mod Lists
