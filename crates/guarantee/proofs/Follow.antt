@@ -54,7 +54,7 @@ module _ (s : System) (h : History) (t : Tied s h) (x : Input) (soft : List ℤ)
   abbrev c : Call
   c = symbol x own own soft
 
-  fits : SymbolFits x l
+  pub fits : SymbolFits x l
   fits = record { xi = f .xi; xq = f .xq; table = f .table; acc = t .short }
 
   abbrev yes : Answer
@@ -79,7 +79,7 @@ module _ (s : System) (h : History) (t : Tied s h) (x : Input) (soft : List ℤ)
     unfolding symbolLent
     lent-is = if-yes (eqb (symbolRefusal r x l) 0) (lentAfter 9296 r x l) l (eq-eqb (symbolRefusal r x l) 0 e)
 
-    after-is : afterCall s c ≡ record { receiver = receiverAfter 9296 r x l; acc = accAfter 9296 r x l; store = storeAfter 9296 r x l }
+    pub after-is : afterCall s c ≡ record { receiver = receiverAfter 9296 r x l; acc = accAfter 9296 r x l; store = storeAfter 9296 r x l }
     unfolding afterCall lentTo handedAcc handedStore keptAcc keptStore lentAfter
     after-is = ap₂ (λ (a : Answer) (m : Lent). record { receiver = a .receiver; acc = m .acc; store = m .store }) answer-is lent-is
 
@@ -189,11 +189,11 @@ module _ (s : System) (h : History) (t : Tied s h) (x : Input) (a : Accumulators
   wrong-steps : Steps s h (symbol x a b soft)
   wrong-steps = record { refusal = told-1; events = no-events; tied = rw (wrong-after, wrong-happens) t }
 
-own-wrong : (store : List ℤ) (e : eqb (length store) 18592 ≡ false) → (ownAcc own && ownStore (wrong store e)) ≡ false
+pub own-wrong : (store : List ℤ) (e : eqb (length store) 18592 ≡ false) → (ownAcc own && ownStore (wrong store e)) ≡ false
 unfolding ownAcc ownStore
 own-wrong store e = refl
 
-wrong-any : (acc : List ℕ) (e : eqb (length acc) 9296 ≡ false) (b : SlotStore) → (ownAcc (wrong acc e) && ownStore b) ≡ false
+pub wrong-any : (acc : List ℕ) (e : eqb (length acc) 9296 ≡ false) (b : SlotStore) → (ownAcc (wrong acc e) && ownStore b) ≡ false
 unfolding ownAcc
 wrong-any acc e b = refl
 

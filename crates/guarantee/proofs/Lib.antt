@@ -13,3 +13,4 @@ pub mod Refusals
 pub mod Follow
 pub mod Loads
 pub mod Lists
+pub mod Losses

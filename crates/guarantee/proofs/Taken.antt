@@ -99,7 +99,7 @@ module _ (s : System) (h : History) (t : Tied s h) (x : Input) (soft : List ℤ)
   trainings-are = ap (λ (es : Events). trainingsBy (toldIn h) (anyHead es)) (events-are s h t x soft)
 
   module _ (a : Takes r x l) (room : full 9296 r x l ≡ false) where
-    store-long : length (storeAfter 9296 r x l) ≡ 18592
+    pub store-long : length (storeAfter 9296 r x l) ≡ 18592
     unfolding storeAfter
     store-long =
         let y = back23 9296 r x l in

@@ -73,7 +73,7 @@ module _ (s : System) (h : History) (t : Tied s h) where
   pub acc-long : length (s .acc) ≡ 9296
   acc-long = ap (λ (x : Held). length (x .acc)) (t .held) ∙ where-now (h .base) (h .last) (h .pushes) noPush (t .kept) .2
 
-late-test : (m : ℕ) (b : Bool) → (if ltb m 23 then false else b) ≡ (leb 23 m && b)
+pub late-test : (m : ℕ) (b : Bool) → (if ltb m 23 then false else b) ≡ (leb 23 m && b)
 unfolding if_then_else_
 late-test m b = by-test (ltb m 23) (λ t. rw (t, lt-leb 23 m (ltb-true m 23 t))) (λ t. rw (t, le-leb 23 m (ltb-false m 23 t)))
 

@@ -29,7 +29,7 @@ use Rattle.receiver.specs.Answers.{noRuns, newAnswer, newAcc}
 use Rattle.receiver_laws.specs.Softs.{BitTrue, SoftTrue}
 use Rattle.guarantee.specs.Calls.{Accumulators, SlotStore, Call, System, Told, CallsFit, begins, lentTo, afterCall, afterCalls, toldBy, toldAll}
 use Rattle.guarantee.specs.Calls.{symbol, points, taps, opens, ends, restarts}
-use Rattle.guarantee.specs.History.{History, beginsWith, nextIn, pushOf, withSymbol, keptIn, keptOver, refusalIn, eventsIn, losesBy, happens, happenAll, endsWith, countOf}
+use Rattle.guarantee.specs.History.{History, beginsWith, nextIn, pushOf, withSymbol, keptIn, keptOver, refusalIn, eventsIn, losesBy, endsStretch, happenAll, endsWith, countOf}
 
 -- ---- words
 -- a loss is told with this restart position
@@ -101,10 +101,10 @@ module _ (h : History) (s : System) (c : Call) (t : Told) (rest : List Call) whe
         toldAll (afterCall s c) rest ≡ toldAll (begins (nextIn h + 1) (keptAfter h c) store) rest
 
   -- the stretch, and how many symbols it had before
-  abbrev pub ps : List Push
+  abbrev ps : List Push
   ps = stretchWith h c
 
-  abbrev pub m : ℕ
+  abbrev m : ℕ
   m = length (h .pushes)
 
   -- "no head or soft bit comes before lock": only after a lock on an earlier symbol
@@ -114,13 +114,13 @@ module _ (h : History) (s : System) (c : Call) (t : Told) (rest : List Call) whe
     -- "A stretch of fewer than 37,207 has no lock"
     pub few : length ps < 37207 → (p : ℕ) → ¬ LockBy 9296 (sizeAt ps) p (length ps)
 
-  -- "the receiver is locked after it and not before": as its own lock has it, and as a period's end tells
+  -- "the receiver is locked after it and not before": as its own lock has it, and as a period's end tells; of a call that does not end the stretch
   pub record LockTold : Type 0 where
-    pub locked : losesBy h c ≡ false → (p : ℕ) → LockBy 9296 (sizeAt ps) p (length ps) →
+    pub locked : endsStretch h c ≡ false → (p : ℕ) → LockBy 9296 (sizeAt ps) p (length ps) →
         (isLocked (afterCall s c .receiver .front .sync .run .lock) ≡ true) × (offsetOf (afterCall s c .receiver .front .sync .run .lock) ≡ p)
-    pub locked-only : losesBy h c ≡ false → isLocked (afterCall s c .receiver .front .sync .run .lock) ≡ true →
+    pub locked-only : endsStretch h c ≡ false → isLocked (afterCall s c .receiver .front .sync .run .lock) ≡ true →
         LockBy 9296 (sizeAt ps) (offsetOf (afterCall s c .receiver .front .sync .run .lock)) (length ps)
-    pub period : losesBy h c ≡ false → (q : SyncStats) → Among (IsPeriod q) (t .events) →
+    pub period : endsStretch h c ≡ false → (q : SyncStats) → Among (IsPeriod q) (t .events) →
         (q .locked ≡ isLocked (afterCall s c .receiver .front .sync .run .lock)) × (q .offset ≡ offsetOf (afterCall s c .receiver .front .sync .run .lock))
 
   -- "Whenever, in every period of 9,296 after the loss, the rotated symbols have correlation size at least P at one fixed position and at most Q at all

@@ -219,6 +219,15 @@ losesBy h (opens frame) = false
 losesBy h ends = false
 losesBy h (restarts at a) = false
 
+-- a call ends the stretch: it loses, or is an accepted restart
+unfoldable pub endsStretch : History → Call → Bool
+endsStretch h (symbol x a b soft) = losesBy h (symbol x a b soft)
+endsStretch h (points bits ps k) = false
+endsStretch h (taps ts frame) = false
+endsStretch h (opens frame) = false
+endsStretch h ends = false
+endsStretch h (restarts at a) = eqb (refusalIn h (restarts at a)) 0
+
 -- the events of a call: an accepted symbol's
 unfoldable pub eventsIn : History → Call → Events
 eventsIn h (symbol x a b soft) = if eqb (refusalIn h (symbol x a b soft)) 0 then eventsWith h x else noEvents
