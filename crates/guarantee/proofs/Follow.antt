@@ -71,11 +71,11 @@ module _ (s : System) (h : History) (t : Tied s h) (x : Input) (soft : List ℤ)
 
   -- taken
   module _ (e : symbolRefusal r x l ≡ 0) where
-    answer-is : symbolAnswer r x l ≡ yes
+    pub answer-is : symbolAnswer r x l ≡ yes
     unfolding symbolAnswer
     answer-is = if-yes (eqb (symbolRefusal r x l) 0) yes (no (symbolRefusal r x l)) (eq-eqb (symbolRefusal r x l) 0 e)
 
-    lent-is : symbolLent r x l ≡ lentAfter 9296 r x l
+    pub lent-is : symbolLent r x l ≡ lentAfter 9296 r x l
     unfolding symbolLent
     lent-is = if-yes (eqb (symbolRefusal r x l) 0) (lentAfter 9296 r x l) l (eq-eqb (symbolRefusal r x l) 0 e)
 

@@ -14,3 +14,4 @@ pub mod Follow
 pub mod Loads
 pub mod Lists
 pub mod Losses
+pub mod Quiet

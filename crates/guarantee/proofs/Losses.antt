@@ -121,7 +121,7 @@ module _ (s : System) (h : History) (t : Tied s h) (x : Input) (soft : List ℤ)
         (λ e. absurd (none-lost at noEvents no-losses (subst (Among (LostAt at)) (if-no (eqb (refusalIn h c) 0) (eventsWith h x) noEvents e) w)))
 
 -- a refused symbol loses nothing
-wrong-loses : (h : History) (x : Input) (a : Accumulators) (b : SlotStore) (soft : List ℤ) → (ownAcc a && ownStore b) ≡ false → losesBy h (symbol x a b soft) ≡ false
+pub wrong-loses : (h : History) (x : Input) (a : Accumulators) (b : SlotStore) (soft : List ℤ) → (ownAcc a && ownStore b) ≡ false → losesBy h (symbol x a b soft) ≡ false
 unfolding losesBy refusalIn if_then_else_
 wrong-loses h x a b soft e = rw e
 

@@ -118,7 +118,7 @@ module _ (r : Receiver) (x : Input) (l : Lent) (c : CoherentReceiver r) where
   left-held = pushed-held (heads 9296 r x l .phase) (enough 9296 r x l)
 
   -- ---- no head
-  none-heads : anyHead es ≡ false → (heads 9296 r x l .phase ≡ r .front .phase) × (heads 9296 r x l .due ≡ NoSlot)
+  pub none-heads : anyHead es ≡ false → (heads 9296 r x l .phase ≡ r .front .phase) × (heads 9296 r x l .due ≡ NoSlot)
   unfolding heads
   none-heads e =
       let k = none-heard 9296 _ es e in
