@@ -1,10 +1,9 @@
 -- The events of one symbol: its heads are heard, and period and loss change nothing; where no loss is told, the sync runs on with its lock.
 -- Assumes nothing.
-use Prim.Native.Nat.{ℕ, _+_, _-_}
+use Prim.Native.Nat.{ℕ, _+_}
 use mathlib.Core.Bool.{Bool, true, false, _||_}
 use mathlib.Core.Path.{_≡_, refl, sym, ap, subst, _∙_}
-use native.Mathlib.Omega.{arith}
-use lib.Dec.{eqb, ltb}
+use lib.Dec.{eqb}
 use Rattle.laws.specs.Choice.{if_then_else_}
 use Rattle.laws.proofs.Tests.{if-both, if-either, never}
 use Rattle.sync_corr.specs.declared.Both.{Both}
@@ -26,7 +25,7 @@ use Rattle.sync_step.specs.declared.LastCorr.{LastCorr}
 use Rattle.sync_step.specs.declared.Run.{Run}
 use Rattle.sync_step.specs.declared.Step.{Step}
 use Rattle.sync_step.specs.declared.SyncStats.{SyncStats}
-use Rattle.sync_step.specs.Events.{isNothing, eventOf, noEvents, headsOf, thenOf}
+use Rattle.sync_step.specs.Events.{isNothing, eventOf, headsOf, thenOf}
 use Rattle.sync_step.specs.Step.{placeOf, takenOf, afterOf, lostOf, lostAtEnd, losesOf, withLock, keptOf, endedOf, lateOf}
 use Rattle.receiver.specs.declared.Listened.{Listened}
 use Rattle.receiver.specs.Heads.{eventHeard, listened, isLost, losesIn}

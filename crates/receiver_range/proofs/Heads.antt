@@ -1,7 +1,7 @@
 -- What the heads of an accepted symbol leave of carrier and slot phase: the head that is held is the last reading's, and a reading completes
 -- the slot of the one before. Assumes nothing.
 use Prim.Native.Nat.{ℕ, _+_, _-_, _*_, _/_, _%_, _≤_, _<_}
-use mathlib.Core.Bool.{Bool, true, false}
+use mathlib.Core.Bool.{true, false}
 use mathlib.Core.Path.{_≡_, refl, sym, ap, subst, _∙_}
 use native.Mathlib.Omega.{arith}
 use borrow.Author.Tests.{eq-eqb, eqb-true, eqb-false, lt-ltb}
@@ -42,7 +42,7 @@ use Rattle.receiver.specs.declared.Listened.{Listened}
 use Rattle.receiver.specs.Heads.{orDue, eventHeard}
 use Rattle.receiver_range.specs.Coherent.{HeadFits, HeldFits, PhaseFits}
 use Rattle.receiver_range.proofs.Tells.{HeadOf, head-fits, TellsOne, mute, sole, TellsTwo, missed, alone, pair, known-tells, first-tells, Knows, known-knows, first-knows}
-use Rattle.receiver_range.proofs.Events.{Stays, still-locked, After}
+use Rattle.receiver_range.proofs.Events.{still-locked, After}
 
 -- ---- the slot that a head at a position completes: that of the head held before, 9,296 symbols earlier
 pub record Completes (x : Held) (at : ℕ) (w : WholeSlot) : Type 0 where

@@ -1,9 +1,9 @@
 -- What is coherent is in range: docs/RANGES.md, "Receiver". Assumes nothing.
-use Prim.Native.Nat.{ℕ, zero, suc, _+_, _*_, _-_, _^_, _≤_, _<_}
-use mathlib.Core.Bool.{Bool, true, false, _&&_, _||_}
+use Prim.Native.Nat.{ℕ, suc, _+_, _*_, _-_, _^_, _≤_, _<_}
+use mathlib.Core.Bool.{Bool, true, _&&_, _||_}
 use mathlib.Core.List.{List, [], _∷_}
 use mathlib.Core.Logic.{_⊎_, inl, inr}
-use mathlib.Core.Path.{_≡_, refl, sym, _∙_}
+use mathlib.Core.Path.{_≡_, refl}
 use native.Mathlib.Nat.{mul-le-mul-right}
 use native.Mathlib.Omega.{arith}
 use borrow.Author.Tests.{le-leb, eq-eqb}
@@ -11,10 +11,9 @@ use lib.Dec.{eqb, leb}
 use lib.Ieee.Bits.{is-true}
 use lib.IntN.{ℤ, pos, natAbs}
 use lib.ListN.{getD, length}
-use lib.Signed.{leZ, _≤ℤ_}
+use lib.Signed.{leZ}
 use Rattle.laws.specs.Choice.{if_then_else_}
 use Rattle.laws.proofs.Tests.{and-both, if-either}
-use Rattle.carrier.specs.Ranges.{ncoInRange}
 use Rattle.carrier.proofs.Theorems.{coherent-in-range as nco-in-range}
 use Rattle.sync_corr.specs.Correlate.{at}
 use Rattle.sync_corr.specs.Rows.{Bounded}
@@ -25,7 +24,7 @@ use Rattle.sync_heads.specs.declared.Reading.{Reading}
 use Rattle.sync_heads.specs.declared.Stage.{Stage}
 use Rattle.sync_heads.specs.declared.Stage.the-variants.{Before, First, Known}
 use Rattle.sync_heads.specs.declared.Head.{Head}
-use Rattle.sync_heads.specs.Ranges.{slotInRange, courseInRange, stageInRange}
+use Rattle.sync_heads.specs.Ranges.{courseInRange, stageInRange}
 use Rattle.sync_step.specs.declared.Run.{Run}
 use Rattle.sync_step.specs.Ranges.{runInRange}
 use Rattle.sync.specs.declared.SlotSync.{SlotSync}
@@ -43,13 +42,11 @@ use Rattle.eq_train.proofs.Theorems.{sound-in-range}
 use Rattle.eq.specs.declared.Equaliser.{Equaliser}
 use Rattle.eq_range.specs.Coherent.{Coherent as CoherentEq}
 use Rattle.frame_line.specs.declared.Meta.{Meta}
-use Rattle.frame_line.specs.declared.LastAt.{LastAt}
-use Rattle.frame_line.specs.declared.LastAt.the-variants.{Never, At}
 use Rattle.frame.specs.declared.Back.{Back}
 use Rattle.receiver.specs.declared.Points.{Points}
 use Rattle.receiver.specs.declared.Receiver.{Receiver}
 use Rattle.receiver.specs.Ranges.{within, allWithin, corrWithin, firstWithin, stageWithin, tallyWithin, runWithin, headWithin, heldWithin, phaseWithin, sumsWithin, eqWithin, metaWithin, metasWithin, lastWithin, backWithin, pointsWithin, frontWithin, receiverInRange}
-use Rattle.receiver_range.specs.Coherent.{HeadFits, HeldFits, PhaseFits, Untouched, Waits, Adjoins, BackFits, RightFits, PointsFit, CoherentReceiver}
+use Rattle.receiver_range.specs.Coherent.{HeadFits, HeldFits, PhaseFits, Untouched, Waits, Adjoins, BackFits, rightMost, RightFits, PointsFit, CoherentReceiver}
 
 -- ---- tests
 within-is : (a b v : ℕ) → a ≤ v → v ≤ b → within a b v ≡ true
@@ -76,7 +73,7 @@ tally-within t y h =
       le-leb (y .peak) 3758114816 (omega (arith, h .peak, rotated-figures .peak-is)),
       le-leb (y .place) 9295 (h .place),
       le-leb (y .sum) 34935435329536
-      (omega (arith, sum-most (runningOf t) (mostOf rotated) (y .sum) (running-most t) (h .sum), rotated-figures .sum-is)),
+          (omega (arith, sum-most (runningOf t) (mostOf rotated) (y .sum) (running-most t) (h .sum), rotated-figures .sum-is)),
     )
 
 corr-within : (c : Corr) → Bounded (corrMost rotated) c → corrWithin c ≡ true
@@ -135,10 +132,10 @@ phase-within : (r : Run) (s : SlotPhase) → (0 < r .t → r .base + r .t ≤ 2 
 unfolding phaseWithin heldWithin
 phase-within r Idle time h = refl
 phase-within r (Holds x) time h =
-    rw (head-within (x .head) (held-low r x h) (held-high r x time h) (h .head), within-is 1 9296 (x .count) (h .some) (h .few))
+    rw (head-within (x .head) (held-low r x h) (held-high r x time h) (h .head), within-is 1 9296 (x .count) (omega (arith, h .some)) (omega (arith, h .few)))
 
 -- ---- equaliser
-right-most : (n m : ℕ) → n ≤ 4194304 → m ≤ n * 47448064 → m ≤ 199011604627456
+right-most : (n m : ℕ) → n ≤ 4194304 → m ≤ n * rightMost → m ≤ 199011604627456
 right-most n m h l = omega arith
 
 sums-within : (s : Sums) → SumsSound s → RightFits s → sumsWithin s ≡ true

@@ -1,7 +1,7 @@
 -- What one corrected symbol of a slot makes of the alignment: who waits, how full the line is, whether it trains, and what stays true of the
 -- equaliser. Assumes nothing.
-use Prim.Native.Nat.{ℕ, zero, suc, _+_, _-_, _*_, _/_, _%_, _^_, _≤_, _<_, min}
-use mathlib.Core.Bool.{Bool, true, false, not, _&&_, _||_}
+use Prim.Native.Nat.{ℕ, suc, _+_, _-_, _*_, _/_, _%_, _≤_, _<_, min}
+use mathlib.Core.Bool.{Bool, true, false, not, _&&_}
 use mathlib.Core.List.{List, [], _∷_}
 use mathlib.Core.Logic.{_⊎_, inl, inr}
 use mathlib.Core.Path.{_≡_, refl, sym, ap, subst, _∙_}
@@ -9,13 +9,12 @@ use native.Mathlib.Nat.{mul-le-mul}
 use native.Mathlib.Omega.{arith}
 use borrow.Author.Tests.{eq-eqb, eqb-true, eqb-false, le-leb, lt-leb, leb-true, leb-false, lt-ltb, le-ltb, ltb-true, ltb-false}
 use lib.Dec.{eqb, leb, ltb}
-use lib.IntN.{ℤ, pos, negℤ, natAbs, _+ℤ_, _-ℤ_, _*ℤ_}
-use lib.ListN.{getD, length}
+use lib.IntN.{ℤ, pos, natAbs, _*ℤ_}
 use mir.Syntax.{w16}
-use mir.Val.{SFits, hbits}
-use Rattle.laws.specs.Choice.{if_then_else_, if-yes, if-no}
-use Rattle.laws.proofs.Tests.{by-test, and-both, if-either, never}
-use Rattle.laws.proofs.Size.{abs-add, abs-sub, abs-mul, abs-neg, abs≤, sfits-abs}
+use mir.Val.{SFits}
+use Rattle.laws.specs.Choice.{if_then_else_}
+use Rattle.laws.proofs.Tests.{by-test, and-both, if-either}
+use Rattle.laws.proofs.Size.{abs-add, abs-sub, abs-mul, abs-neg, arg, sfits-abs}
 use Rattle.sync_corr.specs.Correlate.{onesOf}
 use Rattle.sync_heads.specs.declared.Word.{Word}
 use Rattle.sync_heads.specs.declared.Word.the-variants.{Ssync, Fsync, NotFsync}
@@ -34,18 +33,17 @@ use Rattle.frame_map.specs.Map.{partOf}
 use Rattle.frame_map.specs.Reference.{scaledOf, referenceOf}
 use Rattle.frame_map.proofs.Laws.{part-sync, entry-one}
 use Rattle.frame_line.specs.declared.Meta.{Meta}
-use Rattle.frame_line.specs.declared.Metas.{Metas}
-use Rattle.frame_line.specs.declared.LastAt.{LastAt}
-use Rattle.frame_line.specs.declared.LastAt.the-variants.{Never, At}
+use Rattle.frame_line.specs.declared.LastAt.the-variants.{At}
 use Rattle.frame_line.specs.Line.{metaOf, placedAt, joined, moved, gapAt}
 use Rattle.frame.specs.declared.Back.{Back}
-use Rattle.frame.specs.Align.{joinedTo, restartedBack, isSync, trainedPart, trainedAt, takenBy, pushedBack}
+use Rattle.frame.specs.Align.{isSync, trainedPart, trainedAt, takenBy, pushedBack}
 use Rattle.frame.specs.Answers.{trainsBack, fullBack}
 use Rattle.frame.specs.Stretch.{afterAll, unbroken, trainedIn}
 use Rattle.frame.proofs.Laws.{sync-places, untrained}
-use Rattle.frame.proofs.Theorems.{count-theorem}
+use Rattle.frame.proofs.Theorems.{no-gap, count-theorem}
 use Rattle.frame_range.specs.Coherent.{Short}
-use Rattle.receiver_range.specs.Coherent.{Untouched, Waits, Adjoins, RightFits}
+use Rattle.frame_range.proofs.Theorems.{trained-filled}
+use Rattle.receiver_range.specs.Coherent.{Untouched, Waits, Adjoins, rightMost, RightFits}
 
 -- ---- who waits
 -- number u from the five symbols before a slot's head on: the slot's own begin with 5
@@ -98,10 +96,6 @@ moved-place : (at n c i : ℕ) (m : Meta) → (suc i < c → Place at (n + 5 - c
 moved-place at n c i m q e l = place-is at (n + 5 - c + suc i) (suc n + 5 - c + i) m (omega arith) (q (omega arith))
 
 -- ---- a symbol without a gap before it
-pub no-gap : (b : Back) (at : ℕ) → gapAt (b .last) at ≡ false → joinedTo b at ≡ b
-unfolding joinedTo
-no-gap b at h = if-no (gapAt (b .last) at) (restartedBack b) b h
-
 few-pushed : (b : Back) (c : Corrected) (f s : List ℤ) → gapAt (b .last) (c .at) ≡ false → b .metas .count < 5 →
     pushedBack b c f s .back ≡ record { eq = pushedEq (b .eq) (c .y .i) (c .y .q); metas = joined (b .metas) (metaOf c); last = At (c .at) }
 unfolding pushedBack takenBy if_then_else_
@@ -142,11 +136,7 @@ trained-either P e m f s hf hs p q =
     (λ u. p)))
     (λ t. subst P (sym (untrained e m f s (ltb-false (m .j) 24 t))) p)
 
--- fill and openness stay
-trained-filled : (e : Equaliser) (m : Meta) (f s : List ℤ) → onesOf f ≡ true → onesOf s ≡ true → trainedAt e m f s .filled ≡ e .filled
-unfolding withSums
-trained-filled e m f s hf hs = trained-either (λ (x : Equaliser). x .filled ≡ e .filled) e m f s hf hs refl (λ di dq l t h k. refl)
-
+-- sums stay open, or closed
 trained-opened : (e : Equaliser) (m : Meta) (f s : List ℤ) → onesOf f ≡ true → onesOf s ≡ true → trainedAt e m f s .opened ≡ e .opened
 unfolding withSums
 trained-opened e m f s hf hs = trained-either (λ (x : Equaliser). x .opened ≡ e .opened) e m f s hf hs refl (λ di dq l t h k. sym (trains-open e t))
@@ -184,7 +174,7 @@ filling-step at c₀ f₀ n b c f s hf hs l y p =
     rw (five-pushed b c f s g h)
     (record {
       count = omega (arith, p .count, h);
-      filled = trained-filled (pushedEq (b .eq) (c .y .i) (c .y .q)) (w .first) f s hf hs ∙ omega (arith, p .filled);
+      filled = trained-filled (pushedEq (b .eq) (c .y .i) (c .y .q)) (w .first) f s ∙ omega (arith, p .filled);
       follows = after;
       last = λ i z. ap At (omega (arith, y .at-is, z));
       first = λ i. moved-place at n k 0 (w .second) (p .second) five (omega arith);
@@ -202,7 +192,7 @@ opened-step at n b c f s hf hs g =
     (λ t. ap (λ (x : Back). x .eq .opened) (few-pushed b c f s g (ltb-true (b .metas .count) 5 t)))
     (λ t.
     ap (λ (x : Back). x .eq .opened) (five-pushed b c f s g (ltb-false (b .metas .count) 5 t)) ∙
-        trained-opened (pushedEq (b .eq) (c .y .i) (c .y .q)) (b .metas .first) f s hf hs)
+    trained-opened (pushedEq (b .eq) (c .y .i) (c .y .q)) (b .metas .first) f s hf hs)
 
 -- its training, by crate frame
 pub count-step : (b : Back) (c : Corrected) (f s : List ℤ) → b .metas .count ≤ 5 → gapAt (b .last) (c .at) ≡ false →
@@ -259,17 +249,14 @@ trains-out at c₀ f₀ lo n b z p l (inr h) =
 -- ---- what stays true of the equaliser
 -- a product with a reference of size 724
 product-size : (a b c d : ℤ) → SFits w16 a → SFits w16 b → natAbs c ≤ 724 → natAbs d ≤ 724 →
-    (natAbs (conjProduct a b c d .re) ≤ 47448064) × (natAbs (conjProduct a b c d .im) ≤ 47448064)
+    (natAbs (conjProduct a b c d .re) ≤ rightMost) × (natAbs (conjProduct a b c d .im) ≤ rightMost)
 unfolding conjProduct
 product-size a b c d ha hb hc hd =
-    let ka = size a ha in
-    let kb = size b hb in (
+    let ka : natAbs a ≤ 32768 = arg ha .size in
+    let kb : natAbs b ≤ 32768 = arg hb .size in (
       omega (arith, abs-add (a *ℤ c) (b *ℤ d), abs-mul a c, abs-mul b d, mul-le-mul ka hc, mul-le-mul kb hd),
       omega (arith, abs-sub (a *ℤ d) (b *ℤ c), abs-mul a d, abs-mul b c, mul-le-mul ka hd, mul-le-mul kb hc),
     )
-  where
-    size : (z : ℤ) → SFits w16 z → natAbs z ≤ 32768
-    size z h = omega (arith, abs≤ z, h .sfits)
 
 even-or-odd : (k : ℕ) → (k ≡ 2 * (k / 2)) ⊎ (k ≡ 2 * (k / 2) + 1)
 even-or-odd k = by-test (eqb (k % 2) 0) (λ t. inl (even (eqb-true (k % 2) 0 t))) (λ t. inr (odd (eqb-false (k % 2) 0 t)))
@@ -285,22 +272,22 @@ right-trained : (s : Sums) (line : List ℤ) (di dq : ℤ) → ((k : ℕ) → k 
 unfolding rightProduct
 right-trained s line di dq short hi hq m = record { long = trained-long s line di dq .1; small = λ k h. rw (trained-count s line di dq) (at-place k h (even-or-odd k)) }
   where
-    sizes : (i : ℕ) → i < 11 → (natAbs (rightProduct line di dq i .re) ≤ 47448064) × (natAbs (rightProduct line di dq i .im) ≤ 47448064)
+    sizes : (i : ℕ) → i < 11 → (natAbs (rightProduct line di dq i .re) ≤ rightMost) × (natAbs (rightProduct line di dq i .im) ≤ rightMost)
     sizes i h = product-size (nth line (2 * i)) (nth line (2 * i + 1)) di dq (short (2 * i) (omega arith)) (short (2 * i + 1) (omega arith)) hi hq
 
-    re-place : (i : ℕ) → i < 11 → natAbs (nth (trainedSums s line di dq .p) (2 * i)) ≤ (s .count + 1) * 47448064
+    re-place : (i : ℕ) → i < 11 → natAbs (nth (trainedSums s line di dq .p) (2 * i)) ≤ (s .count + 1) * rightMost
     re-place i h =
         rw (trained-right-re s line di dq i h)
         (omega (arith, abs-add (nth (s .p) (2 * i)) (rightProduct line di dq i .re), m .small (2 * i) (omega arith), sizes i h .0))
 
-    im-place : (i : ℕ) → i < 11 → natAbs (nth (trainedSums s line di dq .p) (2 * i + 1)) ≤ (s .count + 1) * 47448064
+    im-place : (i : ℕ) → i < 11 → natAbs (nth (trainedSums s line di dq .p) (2 * i + 1)) ≤ (s .count + 1) * rightMost
     im-place i h =
         rw (trained-right-im s line di dq i h)
         (omega (arith, abs-add (nth (s .p) (2 * i + 1)) (rightProduct line di dq i .im), m .small (2 * i + 1) (omega arith), sizes i h .1))
 
-    at-place : (k : ℕ) → k < 22 → (k ≡ 2 * (k / 2)) ⊎ (k ≡ 2 * (k / 2) + 1) → natAbs (nth (trainedSums s line di dq .p) k) ≤ (s .count + 1) * 47448064
-    at-place k h (inl e) = subst (λ (x : ℕ). natAbs (nth (trainedSums s line di dq .p) x) ≤ (s .count + 1) * 47448064) (sym e) (re-place (k / 2) (omega arith))
-    at-place k h (inr e) = subst (λ (x : ℕ). natAbs (nth (trainedSums s line di dq .p) x) ≤ (s .count + 1) * 47448064) (sym e) (im-place (k / 2) (omega arith))
+    at-place : (k : ℕ) → k < 22 → (k ≡ 2 * (k / 2)) ⊎ (k ≡ 2 * (k / 2) + 1) → natAbs (nth (trainedSums s line di dq .p) k) ≤ (s .count + 1) * rightMost
+    at-place k h (inl e) = subst (λ (x : ℕ). natAbs (nth (trainedSums s line di dq .p) x) ≤ (s .count + 1) * rightMost) (sym e) (re-place (k / 2) (omega arith))
+    at-place k h (inr e) = subst (λ (x : ℕ). natAbs (nth (trainedSums s line di dq .p) x) ≤ (s .count + 1) * rightMost) (sym e) (im-place (k / 2) (omega arith))
 
 pub record SoundEq (e : Equaliser) : Type 0 where
   pub coherent : CoherentEq e

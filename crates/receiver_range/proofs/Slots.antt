@@ -1,12 +1,12 @@
 -- What a corrected slot makes of the alignment: from nothing, or from the slot before it, to the next. Assumes nothing.
 use Prim.Native.Nat.{ℕ, zero, suc, _+_, _-_, _≤_, _<_, min}
-use mathlib.Core.Bool.{Bool, true, false, not, _&&_, _||_}
+use mathlib.Core.Bool.{Bool, true, false, not, _||_}
 use mathlib.Core.List.{List, [], _∷_, _++_}
 use mathlib.Core.Logic.{_⊎_, inl, inr}
 use mathlib.Core.Path.{_≡_, refl, sym, ap, subst, _∙_}
 use native.Mathlib.Nat.{le-refl}
 use native.Mathlib.Omega.{arith}
-use borrow.Author.Tests.{le-leb, lt-leb, leb-true, leb-false, lt-ltb, le-ltb, ltb-true, ltb-false}
+use borrow.Author.Tests.{leb-true, leb-false, lt-ltb, le-ltb, ltb-true, ltb-false}
 use lib.Dec.{leb, ltb}
 use lib.IntN.{ℤ, pos, negsuc}
 use lib.Signed.{_≤ℤ_}
@@ -15,7 +15,7 @@ use mir.Val.{SFits}
 use Rattle.laws.specs.Choice.{if_then_else_, if-yes, if-no, minus}
 use Rattle.laws.specs.Ranges.{firsts}
 use Rattle.laws.proofs.Linear.{ud-le}
-use Rattle.laws.proofs.Tests.{by-test, if-both, neither}
+use Rattle.laws.proofs.Tests.{and-both, by-test, if-both, neither}
 use Rattle.fx.specs.Fx.{sat16Of}
 use Rattle.fx.proofs.Theorems.{sat16-theorem}
 use Rattle.sync_corr.specs.Correlate.{onesOf}
@@ -23,7 +23,6 @@ use Rattle.sync_heads.specs.Ranges.{slotInRange}
 use Rattle.phase.specs.declared.WholeSlot.{WholeSlot}
 use Rattle.phase.specs.declared.Corrected.{Corrected}
 use Rattle.phase.specs.Phase.{scaledOf, correctedOf}
-use Rattle.eq.proofs.Laws.{and-true}
 use Rattle.frame_line.specs.declared.LastAt.{LastAt}
 use Rattle.frame_line.specs.declared.LastAt.the-variants.{At}
 use Rattle.frame_line.specs.Line.{gapAt}
@@ -32,9 +31,10 @@ use Rattle.frame.specs.declared.Pushed.{Pushed}
 use Rattle.frame.specs.Align.{joinedTo, takenBy, pushedBack}
 use Rattle.frame.specs.Answers.{trainsBack, fullBack}
 use Rattle.frame.specs.Stretch.{afterAll, unbroken}
+use Rattle.frame.proofs.Theorems.{no-gap}
 use Rattle.receiver.specs.Slot.{correctedAll, overfull}
 use Rattle.receiver_range.specs.Coherent.{Untouched, Adjoins}
-use Rattle.receiver_range.proofs.Push.{Symbol, Filling, Begins, SoundEq, no-gap, filling-step, opened-step, count-step, trains-in, trains-out, sound-step, untouched-filling, adjoins-filling, filled-adjoins}
+use Rattle.receiver_range.proofs.Push.{Symbol, Filling, Begins, SoundEq, filling-step, opened-step, count-step, trains-in, trains-out, sound-step, untouched-filling, adjoins-filling, filled-adjoins}
 
 -- ---- one symbol behind others
 pub after-snoc : (b : Back) (xs : List Corrected) (c : Corrected) (f s : List ℤ) → afterAll b (xs ++ (c ∷ [])) f s ≡ pushedBack (afterAll b xs f s) c f s .back
@@ -64,19 +64,15 @@ pushed-last : (b : Back) (c : Corrected) (f s : List ℤ) → pushedBack b c f s
 unfolding pushedBack takenBy
 pushed-last b c f s = if-both (λ (x : Pushed). x .back .last ≡ At (c .at)) _ _ _ refl refl
 
-and-assoc : (a b c : Bool) → (a && (b && c)) ≡ ((a && b) && c)
-and-assoc true b c = refl
-and-assoc false b c = refl
-
-unbroken-snoc : (b : Back) (xs : List Corrected) (c : Corrected) (f s : List ℤ) →
-    unbroken (b .last) (xs ++ (c ∷ [])) ≡ (unbroken (b .last) xs && not (gapAt (afterAll b xs f s .last) (c .at)))
+unbroken-snoc : (b : Back) (xs : List Corrected) (c : Corrected) (f s : List ℤ) → unbroken (b .last) xs ≡ true →
+    gapAt (afterAll b xs f s .last) (c .at) ≡ false → unbroken (b .last) (xs ++ (c ∷ [])) ≡ true
 unfolding unbroken afterAll
-unbroken-snoc b [] c f s = and-true (not (gapAt (b .last) (c .at)))
-unbroken-snoc b (x ∷ xs) c f s =
-    let p = pushedBack b x f s .back in
-    let ih = subst (λ (a : LastAt). unbroken a (xs ++ (c ∷ [])) ≡ (unbroken a xs && not (gapAt (afterAll p xs f s .last) (c .at)))) (pushed-last b x f s) (unbroken-snoc p xs c f s) in
-    ap (λ (t : Bool). not (gapAt (b .last) (x .at)) && t) ih
-    ∙ and-assoc (not (gapAt (b .last) (x .at))) (unbroken (At (x .at)) xs) (not (gapAt (afterAll p xs f s .last) (c .at)))
+unbroken-snoc b [] c f s u g = rw g
+unbroken-snoc b (x ∷ xs) c f s u g =
+    let k = and-both (not (gapAt (b .last) (x .at))) (unbroken (At (x .at)) xs) u in
+    let e = pushed-last b x f s in
+    let ih = unbroken-snoc (pushedBack b x f s .back) xs c f s (subst (λ (a : LastAt). unbroken a xs ≡ true) (sym e) (k .1)) g in
+    rw (k .0) (subst (λ (a : LastAt). unbroken a (xs ++ (c ∷ [])) ≡ true) e ih)
 
 -- ---- the first n symbols of a slot
 module _ (at : ℕ) (cs : ℕ → Corrected) (f s : List ℤ) (hf : onesOf f ≡ true) (hs : onesOf s ≡ true) (good : (j : ℕ) → j < 9296 → Symbol at j (cs j))
@@ -102,7 +98,7 @@ module _ (at : ℕ) (cs : ℕ → Corrected) (f s : List ℤ) (hf : onesOf f ≡
   no-breaks : (n : ℕ) → n ≤ 9296 → unbroken (b .last) (firsts cs n) ≡ true
   unfolding firsts
   no-breaks zero h = unfold unbroken in refl
-  no-breaks (suc n) h = unbroken-snoc b (firsts cs n) (cs n) f s ∙ rw (no-breaks n (omega arith), follows n h)
+  no-breaks (suc n) h = unbroken-snoc b (firsts cs n) (cs n) f s (no-breaks n (omega arith)) (follows n h)
 
   stays-open : (n : ℕ) → n ≤ 9296 → gone n .eq .opened ≡ b .eq .opened
   stays-open zero h = ap (λ (x : Back). x .eq .opened) gone-none
@@ -112,7 +108,7 @@ module _ (at : ℕ) (cs : ℕ → Corrected) (f s : List ℤ) (hf : onesOf f ≡
   count-next : (n : ℕ) → n < 9296 → gone (suc n) .eq .sums .count ≡ gone n .eq .sums .count + (if trainsBack (gone n) then 1 else 0)
   count-next n h =
       ap (λ (x : Back). x .eq .sums .count) (gone-step n) ∙
-          count-step (gone n) (cs n) f s (omega (arith, fills n (omega arith) .count)) (follows n h)
+      count-step (gone n) (cs n) f s (omega (arith, fills n (omega arith) .count)) (follows n h)
 
   -- ---- trainings: those from lo on, up to the 29th symbol
   module _ (lo : ℕ) (z : Begins c₀ f₀ lo) where
@@ -167,13 +163,11 @@ module _ (at : ℕ) (cs : ℕ → Corrected) (f s : List ℤ) (hf : onesOf f ≡
 
     more : (k : ℕ) → (ltb 4194304 k || leb 4194304 k) ≡ ltb 4194304 (k + 1)
     more k =
+        by-test (ltb 4194304 k) (λ t. rw (t, lt-ltb 4194304 (k + 1) (omega (arith, ltb-true 4194304 k t))))
+        (λ t.
         by-test (leb 4194304 k)
-        (λ t. let l = leb-true 4194304 k t in rw (t, lt-ltb 4194304 (k + 1) (omega arith)) (or-true (ltb 4194304 k)))
-        (λ t. let l = leb-false 4194304 k t in rw (t, le-ltb 4194304 (k + 1) (omega arith), le-ltb 4194304 k (omega arith)))
-      where
-        or-true : (t : Bool) → (t || true) ≡ true
-        or-true true = refl
-        or-true false = refl
+        (λ u. rw (t, u, lt-ltb 4194304 (k + 1) (omega (arith, leb-true 4194304 k u))))
+        (λ u. rw (t, u, le-ltb 4194304 (k + 1) (omega (arith, leb-false 4194304 k u)))))
 
     overs : b .eq .opened ≡ true → b .eq .sums .count ≤ 4194304 → (n : ℕ) → n ≤ 9296 →
         overfull b (firsts cs n) f s ≡ ltb 4194304 (b .eq .sums .count + (min n 29 - lo))

@@ -1,19 +1,17 @@
 -- A receiver that starts is coherent, and loads and training calls keep it so. Assumes nothing.
-use Prim.Native.Nat.{ℕ, _*_, _^_, _≤_, _<_}
-use mathlib.Core.Bool.{Bool, true, false, not, _||_}
+use Prim.Native.Nat.{ℕ, _*_, _^_, _≤_}
+use mathlib.Core.Bool.{true, false, not, _||_}
 use mathlib.Core.List.{List}
-use mathlib.Core.Logic.{_⊎_, inl, inr}
+use mathlib.Core.Logic.{inl, inr}
 use mathlib.Core.Path.{_≡_, refl, sym}
 use native.Mathlib.Omega.{arith}
-use borrow.Author.Tests.{ltb-false, leb-true}
+use borrow.Author.Tests.{ltb-false}
 use lib.Dec.{eqb, ltb}
 use lib.IntN.{ℤ, pos, negsuc, natAbs}
 use lib.ListN.{length, length-replicate, getD-replicate}
 use lib.Signed.{ltZ}
 use Rattle.laws.proofs.Tests.{never, neither}
 use Rattle.carrier.proofs.Theorems.{start-coherent}
-use Rattle.sync_heads.specs.declared.Record.{Record}
-use Rattle.sync_heads.specs.declared.Record.the-variants.{Never as NoRecord}
 use Rattle.sync_heads.specs.Ranges.{recordInRange}
 use Rattle.sync_range.specs.Coherent.{rotated}
 use Rattle.sync_range.proofs.Steps.{started-coherent as sync-started}
@@ -34,7 +32,7 @@ use Rattle.receiver.specs.declared.Kept.{Kept}
 use Rattle.receiver.specs.declared.Receiver.{Receiver}
 use Rattle.receiver.specs.Started.{started, noPoints, newKept, keptOf}
 use Rattle.receiver.specs.Answers.{loadedPoints, withPoints, withEq}
-use Rattle.receiver_range.specs.Coherent.{Untouched, Adjoins, BackFits, RightFits, PointsFit, CoherentReceiver}
+use Rattle.receiver_range.specs.Coherent.{BackFits, RightFits, PointsFit, CoherentReceiver}
 
 -- ---- starts
 pub started-coherent : (at : ℕ) (k : Kept) → recordInRange (k .last) ≡ true → PointsFit (k .points) → CoherentReceiver (started at k)

@@ -1,19 +1,19 @@
 -- What an accepted symbol makes of a coherent receiver. Assumes nothing.
 use Prim.Native.Nat.{ℕ, _+_, _-_, _*_, _^_, _≤_, _<_}
-use mathlib.Core.Bool.{Bool, true, false, _||_}
-use mathlib.Core.List.{List, []}
+use mathlib.Core.Bool.{true, false, not}
+use mathlib.Core.List.{List, [], _∷_}
 use mathlib.Core.Logic.{_⊎_, inl, inr}
 use mathlib.Core.Path.{_≡_, refl, sym, ap, subst, _∙_}
+use native.Mathlib.Nat.{not-suc-le-zero}
 use native.Mathlib.Omega.{arith}
-use borrow.Author.Tests.{le-leb, lt-leb, leb-true, leb-false, le-ltb, ltb-true, ltb-false}
+use borrow.Author.Tests.{le-leb, lt-leb, leb-false, le-ltb, ltb-true, ltb-false}
 use lib.Dec.{leb, ltb}
-use lib.IntN.{ℤ, pos, natAbs}
-use lib.ListN.{getD, length}
-use mir.Syntax.{Width, w8, w16}
-use mir.Val.{SFits, hbits}
+use lib.IntN.{ℤ}
+use lib.ListN.{length}
 use Rattle.laws.specs.Choice.{if_then_else_, if-yes, if-no}
-use Rattle.laws.proofs.Size.{abs≤}
-use Rattle.laws.proofs.Tests.{by-test, if-either, never}
+use Rattle.laws.proofs.Lists.{length-firsts}
+use Rattle.laws.proofs.Size.{arg}
+use Rattle.laws.proofs.Tests.{and-both, by-test, if-either}
 use Rattle.carrier.specs.declared.Nco.{Nco}
 use Rattle.carrier.specs.Carrier.{advancedNco}
 use Rattle.carrier.specs.Coherent.{Coherent as CoherentNco}
@@ -28,7 +28,6 @@ use Rattle.sync_step.specs.declared.Run.{Run}
 use Rattle.sync_step.specs.declared.Step.{Step}
 use Rattle.sync_step.specs.Events.{noEvents}
 use Rattle.sync_step.specs.Step.{placeOf, takenOf, earlyOf, lateOf, stepOf}
-use Rattle.sync.specs.declared.SlotSync.{SlotSync}
 use Rattle.sync.specs.Answers.{acceptedPush}
 use Rattle.sync.specs.Sync.{windowAfter, symbolOf}
 use Rattle.sync_range.specs.Calls.{PushFits}
@@ -43,23 +42,26 @@ use Rattle.phase.specs.declared.Held.{Held}
 use Rattle.phase.specs.declared.SlotPhase.{SlotPhase}
 use Rattle.phase.specs.declared.SlotPhase.the-variants.{Idle, Holds}
 use Rattle.phase.specs.declared.WholeSlot.{WholeSlot}
-use Rattle.phase.specs.Phase.{pushedIn}
+use Rattle.phase.specs.declared.Corrected.{Corrected}
+use Rattle.phase.specs.Phase.{pushedIn, correctedOf}
+use Rattle.frame_line.specs.declared.LastAt.the-variants.{At}
+use Rattle.frame_line.specs.Line.{gapAt}
 use Rattle.frame.specs.declared.Back.{Back}
 use Rattle.frame.specs.Stretch.{afterAll, unbroken}
-use Rattle.receiver.specs.declared.Listened.{Listened}
+use Rattle.frame.proofs.Theorems.{not-true, no-gap}
 use Rattle.receiver.specs.declared.Receiver.{Receiver}
 use Rattle.receiver.specs.Started.{started, keptOf}
 use Rattle.receiver.specs.Heads.{eventHeard, listened, losesIn}
-use Rattle.receiver.specs.Slot.{correctedAll, overfull, dueSymbols}
+use Rattle.receiver.specs.Slot.{correctedAll, overfull, dueSymbols, waitingBefore}
 use Rattle.receiver.specs.Symbol.{Input, Lent, nextOf, slotPast, rotated, synced, window, syncLeft, heads, slot, enough, left, lost, receiverAfter, past, full}
-use Rattle.receiver_range.specs.Coherent.{HeldFits, PhaseFits, Untouched, Adjoins, BackFits, RightFits, CoherentReceiver}
+use Rattle.receiver_range.specs.Coherent.{PhaseFits, Untouched, Adjoins, BackFits, CoherentReceiver}
 use Rattle.receiver_range.specs.Calls.{SymbolFits}
 use Rattle.receiver_range.proofs.InRange.{held-low}
 use Rattle.receiver_range.proofs.Starts.{started-coherent}
 use Rattle.receiver_range.proofs.Push.{SoundEq}
-use Rattle.receiver_range.proofs.Slots.{Trains, slot-adjoins, slot-sound, slot-unbroken, slot-first, slot-later}
-use Rattle.receiver_range.proofs.Events.{late-result, Result}
-use Rattle.receiver_range.proofs.Heads.{DueFits, Completes, Follows, Goes, Hears, heardBy, before, taken-hears}
+use Rattle.receiver_range.proofs.Slots.{Trains, slot-adjoins, slot-sound, slot-unbroken, slot-opened, slot-first, slot-later}
+use Rattle.receiver_range.proofs.Events.{late-result}
+use Rattle.receiver_range.proofs.Heads.{DueFits, Follows, heardBy, before, taken-hears}
 
 -- ---- slot sync and its events
 -- what the heads of a step leave, from carrier n and slot phase s on, and what a sync that runs on has of it
@@ -112,9 +114,6 @@ stepped r h a s b n c l g f =
     (λ t. late-stepped r h a s b n c l g (ltb-false (r .t) 23 t) f)
 
 -- ---- a symbol of a receiver
-fits-size : (w : Width) (z : ℤ) → SFits w z → natAbs z ≤ 2 ^ hbits w
-fits-size w z h = omega (arith, abs≤ z, h .sfits)
-
 slot-fits : (h misses : ℕ) (k : SlotNumber) → SlotFits h misses k → slotInRange k ≡ true
 unfolding slotInRange
 slot-fits h misses Unknown g = refl
@@ -166,8 +165,7 @@ module _ (r : Receiver) (x : Input) (l : Lent) (c : CoherentReceiver r) where
   pub turned : SymbolFits x l → PushFits Bounds.rotated (rotated 9296 r x l .i) (rotated 9296 r x l .q) (l .acc)
   unfolding rotated
   turned f =
-      let z = rotated-small (x .table) (r .front .nco .phase) (x .xi) (x .xq) (λ j k. fits-size w16 (getD (x .table) j (pos 0)) (f .table j k)) (fits-size w8 (x .xi) (f .xi))
-      (fits-size w8 (x .xq) (f .xq)) in
+      let z = rotated-small (x .table) (r .front .nco .phase) (x .xi) (x .xq) (λ j k. arg (f .table j k) .size) (arg (f .xi) .size) (arg (f .xq) .size) in
       record { first = z .0; second = z .1; both = z .2; lent = f .acc }
 
   sync-coherent : Takes r x l → CoherentSync Bounds.rotated (syncLeft 9296 r x l)
@@ -280,6 +278,14 @@ due-of r (Holds x) w e p b d =
       back = subst (λ i. Untouched (r .back) ⊎ Adjoins (i .at) (r .back)) (sym h) b;
     }
 
+-- a symbol that is no gap joins those that wait
+waits-unbroken : (b : Back) (cs : List Corrected) → unbroken (b .last) cs ≡ true → 0 < length cs → waitingBefore b cs ≡ b .metas .count
+unfolding unbroken waitingBefore
+waits-unbroken b [] u h = absurd (not-suc-le-zero h)
+waits-unbroken b (d ∷ cs) u h =
+    let k = and-both (not (gapAt (b .last) (d .at))) (unbroken (At (d .at)) cs) u in
+    ap (λ (y : Back). y .metas .count) (no-gap b (d .at) (not-true (gapAt (b .last) (d .at)) (k .0)))
+
 module _ (r : Receiver) (x : Input) (l : Lent) (c : CoherentReceiver r) where
   pub due-is : (w : WholeSlot) → heads 9296 r x l .due ≡ Slot w → Due-is r w
   due-is w e =
@@ -295,7 +301,7 @@ module _ (r : Receiver) (x : Input) (l : Lent) (c : CoherentReceiver r) where
   unfolding full slot dueSymbols overfull
   none-due e = rw e (refl, refl)
 
-  -- ---- TRAININGS: a call that completes a slot makes 19 on an untouched line and 24 after; the slot leaves no position out
+  -- ---- TRAININGS: a call that completes a slot makes 19 on an untouched line and 24 after
   pub symbol-trains : onesOf (x .f) ≡ true → onesOf (x .s) ≡ true → (w : WholeSlot) → heads 9296 r x l .due ≡ Slot w →
       (Untouched (r .back) × Trains 19 (r .back) (slot 9296 r x l) (x .f) (x .s)) ⊎ (Adjoins (w .head .at) (r .back) × Trains 24 (r .back) (slot 9296 r x l) (x .f) (x .s))
   symbol-trains hf hs w e = go (d .back)
@@ -308,6 +314,17 @@ module _ (r : Receiver) (x : Input) (l : Lent) (c : CoherentReceiver r) where
       go (inl u) = inl (u, rw (slot-is w e) (slot-first w (x .table) (l .store) (x .f) (x .s) hf hs (d .slot) (r .back) u))
       go (inr u) = inr (u, rw (slot-is w e) (slot-later w (x .table) (l .store) (x .f) (x .s) hf hs (d .slot) (r .back) u))
 
+  -- the next slot adjoins, and sums that are open stay open
+  pub symbol-adjoins : onesOf (x .f) ≡ true → onesOf (x .s) ≡ true → (w : WholeSlot) → heads 9296 r x l .due ≡ Slot w →
+      Adjoins (w .head .at + 9296) (afterAll (r .back) (slot 9296 r x l) (x .f) (x .s)) × (afterAll (r .back) (slot 9296 r x l) (x .f) (x .s) .eq .opened ≡ r .back .eq .opened)
+  symbol-adjoins hf hs w e =
+      let d = due-is w e in
+      rw (slot-is w e) (
+        slot-adjoins w (x .table) (l .store) (x .f) (x .s) hf hs (d .slot) (r .back) (d .low) (d .back),
+        slot-opened w (x .table) (l .store) (x .f) (x .s) hf hs (d .slot) (r .back) (d .back),
+      )
+
+  -- no position is left out
   pub symbol-unbroken : onesOf (x .f) ≡ true → onesOf (x .s) ≡ true → unbroken (r .back .last) (slot 9296 r x l) ≡ true
   symbol-unbroken hf hs = go (heads 9296 r x l .due) refl
     where
@@ -316,3 +333,10 @@ module _ (r : Receiver) (x : Input) (l : Lent) (c : CoherentReceiver r) where
       go (Slot w) e =
           let d = due-is w e in
           rw (slot-is w e) (slot-unbroken w (x .table) (l .store) (x .f) (x .s) hf hs (d .slot) (r .back) (d .back))
+
+  -- those that wait before it: the alignment's
+  pub symbol-waiting : onesOf (x .f) ≡ true → onesOf (x .s) ≡ true → (w : WholeSlot) → heads 9296 r x l .due ≡ Slot w →
+      waitingBefore (r .back) (slot 9296 r x l) ≡ r .back .metas .count
+  unfolding correctedAll
+  symbol-waiting hf hs w e =
+      waits-unbroken (r .back) (slot 9296 r x l) (symbol-unbroken hf hs) (rw (slot-is w e, length-firsts (correctedOf w (x .table) (l .store)) 9296) (omega arith))

@@ -1,7 +1,7 @@
 -- What the heads that a reading tells are: the last of them is the reading's own, of its position and with the course's slot. Assumes nothing.
-use Prim.Native.Nat.{ℕ, _+_, _≤_}
+use Prim.Native.Nat.{ℕ, _≤_}
 use mathlib.Core.Bool.{Bool, true, false}
-use mathlib.Core.Path.{_≡_, refl, sym, ap, _∙_}
+use mathlib.Core.Path.{_≡_, refl}
 use native.Mathlib.Omega.{arith}
 use lib.IntN.{ℤ, pos, natAbs}
 use lib.Signed.{_≤ℤ_}
@@ -15,13 +15,11 @@ use Rattle.sync_corr.specs.declared.Both.{Both}
 use Rattle.sync_corr.specs.declared.Corr.{Corr}
 use Rattle.sync_heads.specs.declared.Course.{Course}
 use Rattle.sync_heads.specs.declared.Head.{Head}
-use Rattle.sync_heads.specs.declared.Headed.{Headed}
 use Rattle.sync_heads.specs.declared.Headed.the-variants.{Nothing as NoHead, One as OneHead}
 use Rattle.sync_heads.specs.declared.Parity.{Parity}
 use Rattle.sync_heads.specs.declared.Reading.{Reading}
 use Rattle.sync_heads.specs.declared.Said.{Said}
-use Rattle.sync_heads.specs.declared.Stage.{Stage}
-use Rattle.sync_heads.specs.declared.Stage.the-variants.{Before, First, Known}
+use Rattle.sync_heads.specs.declared.Stage.the-variants.{First, Known}
 use Rattle.sync_heads.specs.declared.Taken.{Taken}
 use Rattle.sync_heads.specs.declared.Told.{Told}
 use Rattle.sync_heads.specs.Ranges.{slotInRange}

@@ -3,18 +3,15 @@ use mathlib.Core.Path.{_≡_}
 use mathlib.Core.Bool.{true}
 use mathlib.Core.List.{List, [], _∷_}
 use Prim.Native.Nat.{ℕ, _^_, _<_}
-use lib.IntN.{ℤ, natAbs}
+use lib.IntN.{ℤ}
 use lib.ListN.{length, getD}
 use mir.Syntax.{w8, w16}
 use mir.Val.{SFits}
 use lib.IntN.{pos}
-use Rattle.sync_heads.specs.declared.Record.{Record}
 use Rattle.receiver.specs.declared.Receiver.{Receiver}
-use Rattle.receiver.specs.declared.Kept.{Kept}
-use Rattle.receiver.specs.Started.{started, newKept}
 use Rattle.receiver.specs.Symbol.{Input, Lent}
 use Rattle.receiver.specs.Ranges.{receiverInRange}
-use Rattle.receiver.specs.Answers.{newAnswer, symbolRefusal, symbolAnswer, pointsAnswer, tapsAnswer, openAnswer, endAnswer, restartAnswer}
+use Rattle.receiver.specs.Answers.{newAnswer, symbolAnswer, pointsAnswer, tapsAnswer, openAnswer, endAnswer, restartAnswer}
 use Rattle.receiver_range.specs.Coherent.{CoherentReceiver}
 
 -- a symbol with what is lent; a constellation; taps and their frame; sums opened and ended; a restart

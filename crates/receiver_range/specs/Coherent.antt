@@ -1,10 +1,9 @@
 -- What is true together of the numbers of a receiver that came from calls: docs/RANGES.md, "Receiver", "jointly".
 use mathlib.Core.Path.{_≡_}
 use mathlib.Core.Bool.{true}
-use mathlib.Core.List.{List}
 use mathlib.Core.Logic.{_⊎_}
 use Prim.Native.Nat.{ℕ, _+_, _*_, _^_, _≤_, _<_}
-use lib.IntN.{ℤ, pos, natAbs}
+use lib.IntN.{pos, natAbs}
 use lib.ListN.{length}
 use lib.Signed.{_≤ℤ_}
 use Rattle.sync_corr.specs.Rows.{Bounded}
@@ -87,10 +86,13 @@ abbrev pub BackFits : SlotPhase → Back → Type 0
 BackFits Idle b = Untouched b
 BackFits (Holds x) b = Untouched b ⊎ Adjoins (x .head .at) b
 
--- references are of size 724: each right-hand entry
+-- references are of size 724: a product with one is of size at most 2 x 2^15 x 724, and each right-hand entry a sum of such
+abbrev pub rightMost : ℕ
+rightMost = 47448064
+
 pub record RightFits (s : Sums) : Type 0 where
   pub long : length (s .p) ≡ 22
-  pub small : (k : ℕ) → k < 22 → natAbs (nth (s .p) k) ≤ s .count * 47448064
+  pub small : (k : ℕ) → k < 22 → natAbs (nth (s .p) k) ≤ s .count * rightMost
 
 pub record PointsFit (p : Points) : Type 0 where
   pub bits : p .bits ≤ 5
