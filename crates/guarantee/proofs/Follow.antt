@@ -146,7 +146,7 @@ module _ (s : System) (h : History) (t : Tied s h) (x : Input) (a : Accumulators
   unfolding symbolRefusal if_then_else_
   gives-1 = rw (wrong-fit s a b soft z)
 
-  says-1 : refusalIn h (symbol x a b soft) ≡ 1
+  pub says-1 : refusalIn h (symbol x a b soft) ≡ 1
   unfolding refusalIn if_then_else_
   says-1 = rw z
 

@@ -15,3 +15,4 @@ pub mod Loads
 pub mod Lists
 pub mod Losses
 pub mod Quiet
+pub mod Locks

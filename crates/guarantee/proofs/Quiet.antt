@@ -1,8 +1,7 @@
 -- No soft bit before lock, and none of a refused symbol. Assumes nothing.
 use Prim.Native.Nat.{ℕ, suc, _+_, _-_, _≤_, _<_}
-use Rattle.guarantee.proofs.Follow.{answer-is, lent-is}
+use Rattle.guarantee.proofs.Follow.{answer-is, lent-is, own-wrong, says-1, wrong-any}
 use Rattle.guarantee.proofs.Lists.{call-steps}
-use Rattle.guarantee.proofs.Losses.{wrong-loses}
 use Rattle.guarantee.proofs.Refusals.{own-refusal}
 use Rattle.guarantee.proofs.Slots.{none-heads}
 use Rattle.guarantee.proofs.Stretch.{grown-length, kept-before}
@@ -85,4 +84,71 @@ module _ (s : System) (h : History) (t : Tied s h) (x : Input) (soft : List ℤ)
       record {
         runs = ap (λ (y : Answer). y .runs) (answer-is s h t x soft f z) ∙ no-runs (s .receiver) x l₀ (d .0);
         soft = ap (λ (y : Lent). y .soft) (lent-is s h t x soft f z) ∙ no-soft (s .receiver) x l₀ (d .0);
+      }
+
+one-not : _≡_ {A = ℕ} 1 0 → ⊥
+one-not e = omega arith
+
+no-head : anyHead noEvents ≡ false
+unfolding anyHead isHead noEvents
+no-head = refl
+
+module _ (s : System) (h : History) (t : Tied s h) where
+  -- ---- before lock: heads come after a lock on an earlier symbol
+  head-lock : (x : Input) → anyHead (eventsWith h x) ≡ true → (p : ℕ) × LockBy 9296 (sizeAt (withSymbol h x)) p (length (h .pushes))
+  unfolding eventsWith withSymbol
+  head-lock x e =
+      heads-after-lock 9296 (h .base) (h .last) (withSymbol h x) (length (h .pushes)) (lit≤ tt) (omega (arith, grown-length (h .base) (h .last) (h .pushes) (pushOf h x)))
+      (kept-before (h .base) (h .last) (h .pushes) (pushOf h x) (t .kept)) .after-lock e
+
+  head-by : (c : Call) → anyHead (eventsIn h c) ≡ true → (p : ℕ) × LockBy 9296 (sizeAt (stretchWith h c)) p (length (h .pushes))
+  unfolding eventsIn stretchWith
+  head-by (symbol x a b soft) e =
+      let c = symbol x a b soft in
+      by-test (eqb (refusalIn h c) 0)
+      (λ z.
+      rw (if-yes (eqb (refusalIn h c) 0) (withSymbol h x) (h .pushes) z)
+      (head-lock x (sym (ap anyHead (if-yes (eqb (refusalIn h c) 0) (eventsWith h x) noEvents z)) ∙ e)))
+      (λ z. absurd (never (sym e ∙ ap anyHead (if-no (eqb (refusalIn h c) 0) (eventsWith h x) noEvents z) ∙ no-head)))
+  head-by (points bits ps q) e = absurd (never (sym e ∙ no-head))
+  head-by (taps ts frame) e = absurd (never (sym e ∙ no-head))
+  head-by (opens frame) e = absurd (never (sym e ∙ no-head))
+  head-by ends e = absurd (never (sym e ∙ no-head))
+  head-by (restarts at a) e = absurd (never (sym e ∙ no-head))
+
+  own-soft : (x : Input) (soft : List ℤ) → InputFits x → ((p : ℕ) → ¬ LockBy 9296 (sizeAt (stretchWith h (symbol x own own soft))) p (length (h .pushes))) →
+      NoSoft (symbol x own own soft) (toldBy s (symbol x own own soft))
+  unfolding stretchWith lentTo handedAcc handedStore
+  own-soft x soft f k =
+      let c = symbol x own own soft in
+      let l : Lent = record { acc = s .acc; store = s .store; soft = soft } in
+      by-test (eqb (symbolRefusal (s .receiver) x l) 0)
+      (λ e.
+      let z = eqb-true (symbolRefusal (s .receiver) x l) 0 e in
+      let d : eqb (refusalIn h c) 0 ≡ true = ap (λ (n : ℕ). eqb n 0) (sym (own-refusal s h t x soft)) ∙ e in
+      quiet-none s h t x soft f z
+      (by-test (anyHead (synced 9296 (s .receiver) x l .events))
+      (λ a.
+      let w = head-lock x (sym (ap anyHead (events-are s h t x soft)) ∙ a) in
+      absurd (k (w .0) (rw (if-yes (eqb (refusalIn h c) 0) (withSymbol h x) (h .pushes) d) (w .1))))
+      (λ a. a)))
+      (λ e. refused-none s x own own soft e)
+
+  soft-by : (c : Call) → CallFits c → ((p : ℕ) → ¬ LockBy 9296 (sizeAt (stretchWith h c)) p (length (h .pushes))) → NoSoft c (toldBy s c)
+  soft-by (symbol x own own soft) f k = own-soft x soft f k
+  soft-by (symbol x own (wrong sl d) soft) f k =
+      none-refused s h t (symbol x own (wrong sl d) soft) f (λ e. one-not (sym (says-1 s h t x own (wrong sl d) soft (own-wrong sl d)) ∙ e))
+  soft-by (symbol x (wrong al d) b soft) f k = none-refused s h t (symbol x (wrong al d) b soft) f (λ e. one-not (sym (says-1 s h t x (wrong al d) b soft (wrong-any al d b)) ∙ e))
+  soft-by (points bits ps q) f k = unfold toldBy plain in record { runs = refl; soft = refl }
+  soft-by (taps ts frame) f k = unfold toldBy plain in record { runs = refl; soft = refl }
+  soft-by (opens frame) f k = unfold toldBy plain in record { runs = refl; soft = refl }
+  soft-by ends f k = unfold toldBy plain in record { runs = refl; soft = refl }
+  soft-by (restarts at a) f k = unfold toldBy plain in record { runs = refl; soft = refl }
+
+  pub before-lock : (c : Call) → CallFits c → (rest : List Call) → BeforeLock h s c (toldBy s c) rest
+  before-lock c f rest =
+      record {
+        heads = λ e. head-by c (sym (ap anyHead (call-steps s h c t f .events)) ∙ e);
+        soft = soft-by c f;
+        few = λ l p. no-lock-before (sizeAt (stretchWith h c)) p (length (stretchWith h c)) l;
       }
