@@ -1,3 +1,4 @@
 -- Laws of the receiver's definitions.
 pub mod Heads
 pub mod Stores
+pub mod Softs
