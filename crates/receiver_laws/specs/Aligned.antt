@@ -1,0 +1,64 @@
+-- What a corrected slot comes out as: which symbols, with which taps, told as which runs.
+use Prim.Native.Nat.{ℕ, _<_}
+use Rattle.eq_fir.specs.Fir.{lineAfter, outputOf}
+use Rattle.frame.specs.Align.{joinedTo}
+use Rattle.frame.specs.declared.AlignedSymbol.{AlignedSymbol}
+use Rattle.frame.specs.declared.Back.{Back}
+use Rattle.frame.specs.Stretch.{afterAll}
+use Rattle.frame_line.specs.declared.Meta.{Meta}
+use Rattle.frame_line.specs.declared.Metas.{Metas}
+use Rattle.frame_line.specs.Line.{metaOf}
+use Rattle.frame_line.specs.Waiting.{waitingOf}
+use Rattle.laws.specs.Ranges.{firsts}
+use Rattle.phase.specs.declared.Corrected.{Corrected}
+use Rattle.phase.specs.declared.WholeSlot.{WholeSlot}
+use Rattle.phase.specs.Phase.{correctedOf}
+use Rattle.receiver.specs.declared.AlignedRun.{AlignedRun}
+use Rattle.receiver.specs.declared.Points.{Points}
+use Rattle.receiver.specs.declared.Runs.{Runs}
+use Rattle.receiver.specs.Slot.{pointsFor, tapsFor}
+use lib.IntN.{ℤ}
+use lib.ListN.{length}
+use mathlib.Core.List.{List, [], _∷_, _++_}
+use mathlib.Core.Path.{_≡_}
+
+-- ---- which symbols
+unfoldable pub metasIn : List AlignedSymbol → List Meta
+metasIn [] = []
+metasIn (a ∷ rest) = a .meta ∷ metasIn rest
+
+-- those that waited, unless a gap drops them, then the slot's first n
+unfoldable pub comesOut : ℕ → Back → WholeSlot → List ℤ → List ℤ → List Meta
+comesOut n b w table store = waitingOf (joinedTo b (w .head .at) .metas) ++ firsts (λ (j : ℕ). metaOf (correctedOf w table store j)) n
+
+-- those that wait between slots: none, or the last five of a slot
+pub data Between (w : Metas) : Type 0 where
+  none : w .count ≡ 0 → Between w
+  five : w .count ≡ 5 → w .first .j ≡ 9291 → w .second .j ≡ 9292 → w .third .j ≡ 9293 → w .fourth .j ≡ 9294 → w .fifth .j ≡ 9295 → Between w
+
+-- ---- told as two runs
+pub record BeginsWith (p : Points) (m : Meta) (r : AlignedRun) : Type 0 where
+  pub at-is : r .at ≡ m .at
+  pub j-is : r .j ≡ m .j
+  pub bits-are : r .bits ≡ pointsFor p m .bits
+
+pub record RunsAre (p : Points) (b : Back) (w : WholeSlot) (table store : List ℤ) (r : Runs) : Type 0 where
+  -- those that waited, unless a gap dropped them: the oldest first
+  pub tail-count : r .tail .count ≡ joinedTo b (w .head .at) .metas .count
+  pub tail-begins : 0 < r .tail .count → BeginsWith p (b .metas .first) (r .tail)
+  -- all of the slot but its last five, from its head's position and slot index 0 on
+  pub body-count : r .body .count ≡ 9291
+  pub body-begins : BeginsWith p (metaOf (correctedOf w table store 0)) (r .body)
+  pub body-at : r .body .at ≡ w .head .at
+  pub body-j : r .body .j ≡ 0
+
+-- ---- with which taps: a comes out as symbol c comes in, and is what the taps make of the line with c on it
+pub record EqualisedAt (b : Back) (cs : List Corrected) (f s : List ℤ) (a : AlignedSymbol) : Type 0 where
+  pub before : List Corrected
+  pub c : Corrected
+  pub after : List Corrected
+  pub in-turn : cs ≡ before ++ c ∷ after
+  pub line : List ℤ
+  pub line-is : line ≡ lineAfter (joinedTo (afterAll b before f s) (c .at) .eq .line) (c .y .i) (c .y .q)
+  pub eleven : length line ≡ 22
+  pub is : a .z ≡ outputOf (tapsFor b (a .meta)) line
