@@ -1,7 +1,8 @@
 -- What a corrected slot comes out as: which symbols, with which taps, told as which runs.
-use Prim.Native.Nat.{ℕ, _<_}
+use Prim.Native.Nat.{ℕ, _≤_, _<_}
 use Rattle.eq_fir.specs.Fir.{lineAfter, outputOf}
-use Rattle.frame.specs.Align.{joinedTo}
+use Rattle.frame.specs.Align.{joinedTo, pushedBack}
+use Rattle.frame.specs.declared.Aligned.the-variants.{Given}
 use Rattle.frame.specs.declared.AlignedSymbol.{AlignedSymbol}
 use Rattle.frame.specs.declared.Back.{Back}
 use Rattle.frame.specs.Stretch.{afterAll}
@@ -52,12 +53,20 @@ pub record RunsAre (p : Points) (b : Back) (w : WholeSlot) (table store : List �
   pub body-at : r .body .at ≡ w .head .at
   pub body-j : r .body .j ≡ 0
 
--- ---- with which taps: a comes out as symbol c comes in, and is what the taps make of the line with c on it
+-- ---- with which taps
+-- a line of eleven, which holds all that wait
+pub record Filled (b : Back) : Type 0 where
+  pub eleven : length (b .eq .line) ≡ 22
+  pub few : b .metas .count ≤ 5
+  pub held : b .metas .count ≤ b .eq .filled
+
+-- a comes out as symbol c comes in: what `tapsFor` a makes of the line with c on it
 pub record EqualisedAt (b : Back) (cs : List Corrected) (f s : List ℤ) (a : AlignedSymbol) : Type 0 where
   pub before : List Corrected
   pub c : Corrected
   pub after : List Corrected
   pub in-turn : cs ≡ before ++ c ∷ after
+  pub out : pushedBack (afterAll b before f s) c f s .out ≡ Given a
   pub line : List ℤ
   pub line-is : line ≡ lineAfter (joinedTo (afterAll b before f s) (c .at) .eq .line) (c .y .i) (c .y .q)
   pub eleven : length line ≡ 22
