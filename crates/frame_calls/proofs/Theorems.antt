@@ -7,7 +7,7 @@ use mathlib.Core.Path.{_≡_, refl, sym, ap, _∙_}
 use borrow.Author.Tests.{le-leb, lt-leb, leb-true, leb-false, lt-ltb, le-ltb, ltb-true, ltb-false, eqb-true}
 use lib.Dec.{eqb, leb, ltb}
 use lib.IntN.{ℤ}
-use lib.ListN.{length, getD, drop, length-append, length-take, length-drop}
+use lib.ListN.{length, getD, drop, length-append, length-drop}
 use lib.Seq.{drop-append-seam, drop-append-le, drop-drop, getD-drop}
 use Rattle.laws.specs.Choice.{if_then_else_, if-yes, if-no}
 use Rattle.laws.proofs.Tests.{by-test, if-both, if-either}
@@ -32,6 +32,7 @@ use Rattle.frame_line.specs.declared.LastAt.{LastAt}
 use Rattle.frame_line.specs.declared.LastAt.the-variants.{At}
 use Rattle.frame_line.specs.Line.{noMetas, metaOf, gapAt}
 use Rattle.frame_line.specs.Waiting.{waitingOf}
+use Rattle.frame_line.proofs.Theorems.{waiting-length}
 use Rattle.frame.specs.declared.Back.{Back}
 use Rattle.frame.specs.declared.Pushed.{Pushed}
 use Rattle.frame.specs.declared.Kept as frame
@@ -98,10 +99,6 @@ pushed-filled b c f s g =
 alone : (b : Back) (c : Corrected) → gapAt (b .last) (c .at) ≡ false → unbroken (b .last) (c ∷ []) ≡ true
 unfolding unbroken
 alone b c g = rw g
-
-waiting-length : (w : Metas) → w .count ≤ 5 → length (waitingOf w) ≡ w .count
-unfolding waitingOf
-waiting-length w h = omega (arith, length-take (w .count) (w .first ∷ w .second ∷ w .third ∷ w .fourth ∷ w .fifth ∷ []))
 
 -- G came out, and what waits are the last five
 last-five : (n : ℕ) (G W W′ ms : List Meta) (m : Meta) → length ms ≡ n → G ++ W′ ≡ W ++ m ∷ [] → W ≡ drop (n - 5) ms → length W′ ≡ min (n + 1) 5

@@ -1,9 +1,9 @@
 -- The waiting symbols are a queue. Each statement stands above its proof. Assumes nothing.
-use Prim.Native.Nat.{ℕ, zero, suc, _+_, _<_}
+use Prim.Native.Nat.{ℕ, zero, suc, _+_, _≤_, _<_}
 use native.Mathlib.Omega.{arith}
 use mathlib.Core.List.{[], _∷_, _++_}
 use mathlib.Core.Path.{_≡_, refl}
-use lib.ListN.{take}
+use lib.ListN.{length, length-take, take}
 use Rattle.laws.specs.Choice.{if_then_else_}
 use Rattle.frame_line.specs.declared.Meta.{Meta}
 use Rattle.frame_line.specs.declared.Metas.{Metas}
@@ -14,6 +14,11 @@ use Rattle.frame_line.specs.Waiting.{waitingOf}
 pub none-wait : waitingOf noMetas ≡ []
 unfolding waitingOf noMetas
 none-wait = refl
+
+-- ---- AS MANY WAIT AS ARE COUNTED
+pub waiting-length : (w : Metas) → w .count ≤ 5 → length (waitingOf w) ≡ w .count
+unfolding waitingOf
+waiting-length w h = omega (arith, length-take (w .count) (w .first ∷ w .second ∷ w .third ∷ w .fourth ∷ w .fifth ∷ []))
 
 -- ---- ONE THAT JOINS STANDS BEHIND THE OTHERS
 behind : (n : ℕ) (a b c d e m : Meta) → n < 5

@@ -1,12 +1,12 @@
 -- What a corrected slot comes out as: specs/Aligned. Each statement stands above its proof. Assumes nothing.
-use Prim.Native.Nat.{ℕ, zero, suc, _+_, _-_, _≤_, _<_, min}
+use Prim.Native.Nat.{ℕ, zero, suc, _+_, _≤_, _<_, min}
 use Rattle.angles.specs.declared.Symbol.{Symbol}
 use Rattle.eq.specs.declared.Equalised.{Equalised}
 use Rattle.eq.specs.declared.Equalised.the-variants.{Nothing as NoOutput, Given as Output}
 use Rattle.eq.specs.declared.Equaliser.{Equaliser}
 use Rattle.eq.specs.Eq.{outputAt, pushedEq, startedEq, trainedEq, trainsEq, withSums}
 use Rattle.eq_fir.specs.Fir.{lineAfter, noLine, outputOf}
-use Rattle.frame.proofs.Theorems.{aligned-theorem, gap-theorem, no-gap, waiting-theorem}
+use Rattle.frame.proofs.Theorems.{aligned-theorem, gap-theorem, waiting-theorem}
 use Rattle.frame.specs.Align.{equalisedBy, joinedTo, pushedBack, restartedBack, startedBack, takenBy, trainedAt, trainedPart}
 use Rattle.frame.specs.declared.Aligned.{Aligned}
 use Rattle.frame.specs.declared.Aligned.the-variants.{Nothing, Given}
@@ -14,9 +14,9 @@ use Rattle.frame.specs.declared.AlignedSymbol.{AlignedSymbol}
 use Rattle.frame.specs.declared.Back.{Back}
 use Rattle.frame.specs.declared.Pushed.{Pushed}
 use Rattle.frame.specs.Stretch.{afterAll, givenAll, givenBy, metasOf, unbroken}
-use Rattle.frame_line.specs.declared.LastAt.the-variants.{Never, At}
+use Rattle.frame_line.proofs.Theorems.{waiting-length}
+use Rattle.frame_line.specs.declared.LastAt.the-variants.{At}
 use Rattle.frame_line.specs.declared.Meta.{Meta}
-use Rattle.frame_line.specs.declared.Metas.{Metas}
 use Rattle.frame_line.specs.Line.{gapAt, joined, metaOf, moved, noMetas}
 use Rattle.frame_line.specs.Waiting.{waitingOf}
 use Rattle.frame_map.specs.declared.SlotPart.{SlotPart}
@@ -36,11 +36,11 @@ use Rattle.receiver_laws.specs.Aligned.{BeginsWith, EqualisedAt, Filled,
 use Rattle.receiver_laws.specs.Softs.{In}
 use Rattle.receiver_laws.specs.Softs.In.{here, there}
 use borrow.Author.Tests.{eq-eqb, lt-ltb, ltb-false, ltb-true}
-use lib.Dec.{eqb, ltb}
+use lib.Dec.{ltb}
 use lib.IntN.{ℤ}
 use lib.ListN.{drop, length, length-append, length-take, take}
 use lib.Seq.{drop-at, take-append-add, take-append-le, take-append-seam, take-all, take-at}
-use mathlib.Core.Bool.{Bool, _&&_, false, not, true}
+use mathlib.Core.Bool.{Bool, false, true}
 use mathlib.Core.List.{List, [], _∷_, _++_}
 use mathlib.Core.Logic.{_⊎_, inl, inr, ⊎-elim}
 use mathlib.Core.Path.{_∙_, _≡_, ap, ap₂, refl, sym}
@@ -116,10 +116,6 @@ joined-few b at h = if-both (λ (x : Back). x .metas .count ≤ 5) (gapAt (b .la
 joined-last : (b : Back) (at : ℕ) → gapAt (joinedTo b at .last) at ≡ false
 unfolding joinedTo restartedBack startedBack
 joined-last b at = if-either (λ (x : Back). gapAt (x .last) at ≡ false) (gapAt (b .last) at) (restartedBack b) b (λ t. unfold gapAt in refl) (λ t. t)
-
-waiting-length : (w : Metas) → w .count ≤ 5 → length (waitingOf w) ≡ w .count
-unfolding waitingOf
-waiting-length w h = omega (arith, length-take (w .count) (w .first ∷ w .second ∷ w .third ∷ w .fourth ∷ w .fifth ∷ []))
 
 -- what stands in front
 front : {A : Type 0} (xs ys ws zs : List A) (n : ℕ) → xs ++ ys ≡ ws ++ zs → length xs ≡ length ws + n → xs ≡ ws ++ take n zs
