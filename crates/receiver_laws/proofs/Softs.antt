@@ -26,7 +26,7 @@ use Rattle.receiver.specs.Slot.{alignedAll, correctedAll, pointsFor, softAll, s
 use Rattle.receiver_laws.proofs.Aligned.{aligned-are}
 use Rattle.receiver_laws.specs.Aligned.{Between, comesOut, metasIn}
 use Rattle.receiver_laws.specs.Aligned.Between.{five, none}
-use Rattle.receiver_laws.specs.Softs.{BitTrue, In, SoftTrue}
+use Rattle.receiver_laws.specs.Softs.{BitTrue, FitClaim, SoftTrue}
 use Rattle.receiver_laws.specs.Softs.In.{here, there}
 use borrow.Author.Tests.{ltb-false, ltb-true}
 use lib.Dec.{lit≤, ltb}
@@ -34,7 +34,7 @@ use lib.IntN.{ℤ, pos}
 use lib.ListN.{getD, length, length-append}
 use lib.Seq.{getD-append-add}
 use mathlib.Core.List.{List, [], _∷_, _++_}
-use mathlib.Core.Path.{_∙_, _≡_, ap, refl, sym}
+use mathlib.Core.Path.{_∙_, _≡_, ap, refl}
 use native.Mathlib.Nat.{not-suc-le-zero}
 use native.Mathlib.Omega.{arith}
 
@@ -198,8 +198,7 @@ points-fit : (p : Points) → p .bits ≤ 5 → (m : Meta) → pointsFor p m .bi
 unfolding pointsFor
 points-fit p h m = h
 
-pub softs-fit : (p : Points) (b : Back) (w : WholeSlot) (table store f s : List ℤ) → p .bits ≤ 5 → Between (b .metas)
-    → length (softAll p (alignedAll b (correctedAll 9296 w table store) f s)) ≤ 44880
+pub softs-fit : FitClaim
 unfolding comesOut mainsTo
 softs-fit p b w table store f s h k =
     let given = alignedAll b (correctedAll 9296 w table store) f s in

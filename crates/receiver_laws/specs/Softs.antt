@@ -3,14 +3,17 @@ use Prim.Native.Nat.{ℕ, _-_, _^_, _≤_, _<_}
 use mathlib.Core.List.{List, _∷_}
 use mathlib.Core.Path.{_≡_}
 use lib.IntN.{ℤ, pos, natAbs}
-use lib.ListN.{getD}
+use lib.ListN.{getD, length}
 use lib.Signed.{_<ℤ_}
 use Rattle.demap.specs.Demap.{Nearest, bitOf}
 use Rattle.frame_map.specs.declared.SlotPart.the-variants.{Main}
 use Rattle.frame_map.specs.Map.{partOf}
 use Rattle.frame.specs.declared.AlignedSymbol.{AlignedSymbol}
+use Rattle.frame.specs.declared.Back.{Back}
+use Rattle.phase.specs.declared.WholeSlot.{WholeSlot}
 use Rattle.receiver.specs.declared.Points.{Points}
-use Rattle.receiver.specs.Slot.{pointsFor, softAll}
+use Rattle.receiver.specs.Slot.{alignedAll, correctedAll, pointsFor, softAll}
+use Rattle.receiver_laws.specs.Aligned.{Between}
 
 -- ---- one soft bit: value v of the bit at place j, most significant first, of a symbol demapped with 2^bits points
 pub record BitTrue (bits : ℕ) (points : List ℤ) (yi yq : ℤ) (j : ℕ) (v : ℤ) : Type 0 where
@@ -33,3 +36,9 @@ pub record SoftTrue (p : Points) (given : List AlignedSymbol) (i : ℕ) : Type 0
   pub place : ℕ
   pub below : place < pointsFor p (of .meta) .bits
   pub true-of : BitTrue (pointsFor p (of .meta) .bits) (pointsFor p (of .meta) .points) (of .z .i) (of .z .q) place (getD (softAll p given) i (pos 0))
+
+-- ---- the soft values of a slot fit the buffer of 44,880
+abbrev pub FitClaim : Type 0
+FitClaim =
+    (p : Points) (b : Back) (w : WholeSlot) (table store f s : List ℤ) → p .bits ≤ 5 → Between (b .metas) →
+    length (softAll p (alignedAll b (correctedAll 9296 w table store) f s)) ≤ 44880
