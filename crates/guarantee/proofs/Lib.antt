@@ -16,3 +16,5 @@ pub mod Lists
 pub mod Losses
 pub mod Quiet
 pub mod Locks
+pub mod Softs
+pub mod Theorems

@@ -86,7 +86,7 @@ module _ (s : System) (h : History) (t : Tied s h) (x : Input) (soft : List ℤ)
         soft = ap (λ (y : Lent). y .soft) (lent-is s h t x soft f z) ∙ no-soft (s .receiver) x l₀ (d .0);
       }
 
-one-not : _≡_ {A = ℕ} 1 0 → ⊥
+pub one-not : _≡_ {A = ℕ} 1 0 → ⊥
 one-not e = omega arith
 
 no-head : anyHead noEvents ≡ false
