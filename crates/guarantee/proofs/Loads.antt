@@ -17,7 +17,7 @@ use Rattle.laws.specs.Choice.{if-no, if-yes, if_then_else_}
 use Rattle.receiver.specs.declared.Answered.{Answered}
 use Rattle.receiver.specs.declared.Ended.{Ended}
 use Rattle.receiver.specs.declared.Kept.{Kept as KeptValues}
-use Rattle.receiver.specs.declared.Points.{Points}
+use Rattle.receiver_slot.specs.declared.Points.{Points}
 use Rattle.receiver.specs.declared.Receiver.{Receiver}
 use Rattle.receiver.specs.Answers.{endAnswer, eqAnswer, loadedPoints, openAnswer, pointsAnswer, pointsRefusal, restartAcc, restartAnswer, restartRefusal, tapsAnswer, withEq, withPoints}
 use Rattle.receiver.specs.Ranges.{receiverInRange}

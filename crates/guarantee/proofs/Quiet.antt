@@ -16,7 +16,7 @@ use Rattle.phase.specs.declared.Corrected.{Corrected}
 use Rattle.receiver.specs.declared.Answer.{Answer}
 use Rattle.receiver.specs.declared.Receiver.{Receiver}
 use Rattle.receiver.specs.Answers.{noRuns, symbolAnswer, symbolLent, symbolRefusal}
-use Rattle.receiver.specs.Slot.{alignedAll, noRun, runOf, runsOf, softAll, waitingBefore, writtenOn}
+use Rattle.receiver_slot.specs.Slot.{alignedAll, noRun, runOf, runsOf, softAll, waitingBefore, writtenOn}
 use Rattle.receiver.specs.Symbol.{Input, Lent, aligned, lentAfter, receiverAfter, runs, slot, softAfter, synced}
 use Rattle.receiver_range.proofs.Symbols.{none-due}
 use Rattle.sync_history.proofs.Theorems.{no-lock-before}

@@ -15,7 +15,7 @@ use Rattle.phase.specs.declared.WholeSlot.{WholeSlot}
 use Rattle.phase.specs.Phase.{begunOf, dueIn, pushedIn, wholeOf}
 use Rattle.receiver.specs.declared.Listened.{Listened}
 use Rattle.receiver.specs.declared.Receiver.{Receiver}
-use Rattle.receiver.specs.Slot.{correctedAll}
+use Rattle.receiver_slot.specs.Slot.{correctedAll}
 use Rattle.sync_corr.specs.Correlate.{onesOf}
 use Rattle.receiver.specs.Symbol.{Input, Lent, enough, full, heads, left, slot, synced}
 use Rattle.receiver_laws.proofs.Heads.{Begun}

@@ -15,9 +15,9 @@ use Rattle.phase.specs.declared.Due.the-variants.{Nothing as NoSlot, Slot}
 use Rattle.phase.specs.declared.SlotPhase.{SlotPhase}
 use Rattle.phase.specs.declared.SlotPhase.the-variants.{Idle, Holds}
 use Rattle.receiver.specs.Answers.{symbolLent, symbolRefusal}
-use Rattle.receiver.specs.Slot.{alignedAll, correctedAll, dueSymbols, softAll, writtenOn}
+use Rattle.receiver_slot.specs.Slot.{alignedAll, correctedAll, dueSymbols, softAll, writtenOn}
 use Rattle.receiver.specs.Symbol.{Input, Lent, aligned, heads, lentAfter, slot, softAfter}
-use Rattle.receiver.specs.declared.Points.{Points}
+use Rattle.receiver_slot.specs.declared.Points.{Points}
 use Rattle.receiver.specs.declared.Receiver.{Receiver}
 use Rattle.receiver_laws.proofs.Softs.{bit-true, softs-fit, softs-true}
 use Rattle.receiver_laws.specs.Aligned.{Between}

@@ -6,7 +6,7 @@ use Rattle.eq.specs.declared.Equaliser.{Equaliser}
 use Rattle.eq.specs.declared.TapsFrom.{TapsFrom}
 use Rattle.eq.specs.Eq.{startedEq}
 use Rattle.frame.specs.Align.{startedBack}
-use Rattle.receiver.specs.declared.Points.{Points}
+use Rattle.receiver_slot.specs.declared.Points.{Points}
 use Rattle.frame.specs.declared.Back.{Back}
 use Rattle.guarantee.proofs.Accs.{acc-short}
 use Rattle.guarantee.proofs.Prefix.{told-prefix}

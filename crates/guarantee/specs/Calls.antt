@@ -14,7 +14,7 @@ use Rattle.sums.specs.declared.Sums.{Sums}
 use Rattle.sums.specs.Sums.{emptySums}
 use Rattle.receiver.specs.declared.Receiver.{Receiver}
 use Rattle.receiver.specs.declared.Kept.{Kept}
-use Rattle.receiver.specs.declared.Runs.{Runs}
+use Rattle.receiver_slot.specs.declared.Runs.{Runs}
 use Rattle.receiver.specs.declared.Answer.{Answer}
 use Rattle.receiver.specs.declared.Answered.{Answered}
 use Rattle.receiver.specs.declared.Ended.{Ended}

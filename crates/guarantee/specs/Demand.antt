@@ -21,9 +21,9 @@ use Rattle.sync_tie.specs.Claims.{anyHead, HeadAt}
 use Rattle.demap.specs.Answers.{demapRefusal, demapBuffer}
 use Rattle.receiver.specs.declared.Receiver.{Receiver}
 use Rattle.receiver.specs.declared.Kept.{Kept}
-use Rattle.receiver.specs.declared.Runs.{Runs}
+use Rattle.receiver_slot.specs.declared.Runs.{Runs}
 use Rattle.receiver.specs.Started.{started, newKept}
-use Rattle.receiver.specs.Slot.{softAll, writtenOn}
+use Rattle.receiver_slot.specs.Slot.{softAll, writtenOn}
 use Rattle.receiver.specs.Symbol.{Input, Lent, aligned}
 use Rattle.receiver.specs.Answers.{noRuns, newAnswer, newAcc}
 use Rattle.receiver_laws.specs.Softs.{BitTrue, SoftTrue}

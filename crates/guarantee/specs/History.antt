@@ -22,7 +22,7 @@ use Rattle.carrier.specs.Carrier.{startedNco, rotatedOf, advancedNco, heardOf}
 use Rattle.demap.specs.Answers.{badPoints, badScale}
 use Rattle.eq.specs.declared.TapsFrom.{TapsFrom}
 use Rattle.eq.specs.declared.TapsFrom.the-variants.{Frame}
-use Rattle.receiver.specs.declared.Points.{Points}
+use Rattle.receiver_slot.specs.declared.Points.{Points}
 use Rattle.receiver.specs.declared.Kept.{Kept}
 use Rattle.receiver.specs.Started.{newKept}
 use Rattle.receiver.specs.Symbol.{Input}

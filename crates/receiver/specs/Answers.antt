@@ -12,14 +12,14 @@ use Rattle.demap.specs.Answers.{badPoints, badScale}
 use Rattle.sums.specs.Sums.{emptySums}
 use Rattle.eq.specs.declared.Equaliser.{Equaliser}
 use Rattle.eq.specs.Eq.{withSums, loadedEq}
-use Rattle.receiver.specs.declared.Points.{Points}
+use Rattle.receiver_slot.specs.declared.Points.{Points}
 use Rattle.receiver.specs.declared.Receiver.{Receiver}
-use Rattle.receiver.specs.declared.Runs.{Runs}
+use Rattle.receiver_slot.specs.declared.Runs.{Runs}
 use Rattle.receiver.specs.declared.Answer.{Answer}
 use Rattle.receiver.specs.declared.Answered.{Answered}
 use Rattle.receiver.specs.declared.Ended.{Ended}
 use Rattle.receiver.specs.Started.{started, newKept, keptOf}
-use Rattle.receiver.specs.Slot.{noRun}
+use Rattle.receiver_slot.specs.Slot.{noRun}
 use Rattle.receiver.specs.Symbol.{Input, Lent, nextOf, synced, receiverAfter, lentAfter, runs, past, full}
 use Rattle.receiver.specs.Ranges.{receiverInRange}
 

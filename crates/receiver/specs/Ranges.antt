@@ -28,7 +28,7 @@ use Rattle.frame_line.specs.declared.Metas.{Metas}
 use Rattle.frame_line.specs.declared.LastAt.{LastAt}
 use Rattle.frame_line.specs.declared.LastAt.the-variants.{Never, At}
 use Rattle.frame.specs.declared.Back.{Back}
-use Rattle.receiver.specs.declared.Points.{Points}
+use Rattle.receiver_slot.specs.declared.Points.{Points}
 use Rattle.receiver.specs.declared.Front.{Front}
 use Rattle.receiver.specs.declared.Receiver.{Receiver}
 

@@ -10,7 +10,7 @@ use Rattle.eq_fir.specs.Fir.{identityTaps}
 use Rattle.eq.specs.declared.TapsFrom.the-variants.{Identity}
 use Rattle.eq.specs.Eq.{startedEq}
 use Rattle.frame.specs.Align.{startedBack}
-use Rattle.receiver.specs.declared.Points.{Points}
+use Rattle.receiver_slot.specs.declared.Points.{Points}
 use Rattle.receiver.specs.declared.Kept.{Kept}
 use Rattle.receiver.specs.declared.Receiver.{Receiver}
 

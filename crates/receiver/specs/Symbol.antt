@@ -21,10 +21,10 @@ use Rattle.frame.specs.Stretch.{afterAll}
 use Rattle.frame.specs.declared.AlignedSymbol.{AlignedSymbol}
 use Rattle.receiver.specs.declared.Receiver.{Receiver}
 use Rattle.receiver.specs.declared.Listened.{Listened}
-use Rattle.receiver.specs.declared.Runs.{Runs}
+use Rattle.receiver_slot.specs.declared.Runs.{Runs}
 use Rattle.receiver.specs.Started.{started, keptOf}
 use Rattle.receiver.specs.Heads.{listened, losesIn}
-use Rattle.receiver.specs.Slot.{dueSymbols, alignedAll, softAll, writtenOn, waitingBefore, runsOf, overfull}
+use Rattle.receiver_slot.specs.Slot.{dueSymbols, alignedAll, softAll, writtenOn, waitingBefore, runsOf, overfull}
 
 -- a symbol (signed bytes), with the words and the carrier table that are lent with it
 pub record Input : Type 0 where

@@ -4,17 +4,12 @@ use eq::TapsFrom;
 use frame::Back;
 use phase::Due;
 use phase::SlotPhase;
+use receiver_slot::Points;
+use receiver_slot::Runs;
 use sums::Sums;
 use sync::SlotSync;
 use sync_heads::Record;
 use sync_step::Events;
-
-// The loaded constellation: 2^bits points as pairs in the order of their labels, zeros behind them. Before a load bits is 0.
-pub struct Points {
-    pub bits: u8,
-    pub points: [i16; 64],
-    pub k: u32,
-}
 
 // What a loss or a restart keeps.
 pub struct Kept {
@@ -45,20 +40,6 @@ pub struct Listened {
     pub nco: Nco,
     pub phase: SlotPhase,
     pub due: Due,
-}
-
-// Aligned symbols one after another: position and slot index of the first, how many, and the soft bits of each main symbol among them.
-pub struct AlignedRun {
-    pub at: u64,
-    pub j: u16,
-    pub count: u16,
-    pub bits: u8,
-}
-
-// Those that had waited, and those of the slot that was corrected.
-pub struct Runs {
-    pub tail: AlignedRun,
-    pub body: AlignedRun,
 }
 
 // What a symbol answers.

@@ -29,9 +29,9 @@ use Rattle.laws.specs.Ranges.{firsts}
 use Rattle.phase.specs.declared.Corrected.{Corrected}
 use Rattle.phase.specs.declared.WholeSlot.{WholeSlot}
 use Rattle.phase.specs.Phase.{correctedOf}
-use Rattle.receiver.specs.declared.AlignedRun.{AlignedRun}
-use Rattle.receiver.specs.declared.Points.{Points}
-use Rattle.receiver.specs.Slot.{alignedAll, alignedBy, correctedAll, noRun, pointsFor, runOf, runsOf, tapsFor, waitingBefore}
+use Rattle.receiver_slot.specs.declared.AlignedRun.{AlignedRun}
+use Rattle.receiver_slot.specs.declared.Points.{Points}
+use Rattle.receiver_slot.specs.Slot.{alignedAll, alignedBy, correctedAll, noRun, pointsFor, runOf, runsOf, tapsFor, waitingBefore}
 use Rattle.receiver_laws.specs.Aligned.{BeginsWith, EqualisedAt, Filled, RunsAre, comesOut, metasIn}
 use Rattle.receiver_laws.specs.Softs.{In}
 use Rattle.receiver_laws.specs.Softs.In.{here, there}

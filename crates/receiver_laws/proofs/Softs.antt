@@ -21,8 +21,8 @@ use Rattle.laws.proofs.Tests.{by-test, if-both}
 use Rattle.laws.specs.Ranges.{firsts}
 use Rattle.phase.specs.declared.WholeSlot.{WholeSlot}
 use Rattle.phase.specs.Phase.{correctedOf}
-use Rattle.receiver.specs.declared.Points.{Points}
-use Rattle.receiver.specs.Slot.{alignedAll, correctedAll, pointsFor, softAll, softOf}
+use Rattle.receiver_slot.specs.declared.Points.{Points}
+use Rattle.receiver_slot.specs.Slot.{alignedAll, correctedAll, pointsFor, softAll, softOf}
 use Rattle.receiver_laws.proofs.Aligned.{aligned-are}
 use Rattle.receiver_laws.specs.Aligned.{Between, comesOut, metasIn}
 use Rattle.receiver_laws.specs.Aligned.Between.{five, none}

@@ -15,7 +15,7 @@ use Rattle.phase_range.specs.Calls.{AgreeOn}
 use Rattle.receiver.specs.declared.Answer.{Answer}
 use Rattle.receiver.specs.declared.Listened.{Listened}
 use Rattle.receiver.specs.declared.Receiver.{Receiver}
-use Rattle.receiver.specs.Slot.{correctedAll, dueSymbols}
+use Rattle.receiver_slot.specs.Slot.{correctedAll, dueSymbols}
 use Rattle.receiver.specs.Started.{keptOf, started}
 use Rattle.receiver.specs.Symbol.{Input, Lent, aligned, accAfter, back23, enough, full, heads, left, lentAfter, lost, nextOf, past, receiverAfter, rotated, runs, slot, softAfter, storeAfter, syncLeft, synced, window}
 use Rattle.receiver.specs.Answers.{noRuns, storesFit, symbolAnswer, symbolLent, symbolRefusal}

@@ -14,10 +14,10 @@ use Rattle.laws.specs.Ranges.{firsts}
 use Rattle.phase.specs.declared.Corrected.{Corrected}
 use Rattle.phase.specs.declared.WholeSlot.{WholeSlot}
 use Rattle.phase.specs.Phase.{correctedOf}
-use Rattle.receiver.specs.declared.AlignedRun.{AlignedRun}
-use Rattle.receiver.specs.declared.Points.{Points}
-use Rattle.receiver.specs.declared.Runs.{Runs}
-use Rattle.receiver.specs.Slot.{pointsFor, tapsFor}
+use Rattle.receiver_slot.specs.declared.AlignedRun.{AlignedRun}
+use Rattle.receiver_slot.specs.declared.Points.{Points}
+use Rattle.receiver_slot.specs.declared.Runs.{Runs}
+use Rattle.receiver_slot.specs.Slot.{pointsFor, tapsFor}
 use lib.IntN.{ℤ}
 use lib.ListN.{length}
 use mathlib.Core.List.{List, [], _∷_, _++_}

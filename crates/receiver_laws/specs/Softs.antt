@@ -11,8 +11,8 @@ use Rattle.frame_map.specs.Map.{partOf}
 use Rattle.frame.specs.declared.AlignedSymbol.{AlignedSymbol}
 use Rattle.frame.specs.declared.Back.{Back}
 use Rattle.phase.specs.declared.WholeSlot.{WholeSlot}
-use Rattle.receiver.specs.declared.Points.{Points}
-use Rattle.receiver.specs.Slot.{alignedAll, correctedAll, pointsFor, softAll}
+use Rattle.receiver_slot.specs.declared.Points.{Points}
+use Rattle.receiver_slot.specs.Slot.{alignedAll, correctedAll, pointsFor, softAll}
 use Rattle.receiver_laws.specs.Aligned.{Between}
 
 -- ---- one soft bit: value v of the bit at place j, most significant first, of a symbol demapped with 2^bits points

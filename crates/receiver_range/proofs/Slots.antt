@@ -32,7 +32,7 @@ use Rattle.frame.specs.Align.{joinedTo, takenBy, pushedBack}
 use Rattle.frame.specs.Answers.{trainsBack, fullBack}
 use Rattle.frame.specs.Stretch.{afterAll, unbroken}
 use Rattle.frame.proofs.Theorems.{no-gap}
-use Rattle.receiver.specs.Slot.{correctedAll, overfull}
+use Rattle.receiver_slot.specs.Slot.{correctedAll, overfull}
 use Rattle.receiver_range.specs.Coherent.{Untouched, Adjoins}
 use Rattle.receiver_range.proofs.Push.{Symbol, Filling, Begins, SoundEq, filling-step, opened-step, count-step, trains-in, trains-out, sound-step, untouched-filling, adjoins-filling, filled-adjoins}
 

@@ -27,7 +27,7 @@ use Rattle.eq_range.proofs.Kept.{started-coherent as eq-started, open-coherent,
 use Rattle.frame_line.specs.Line.{noMetas}
 use Rattle.frame.specs.declared.Back.{Back}
 use Rattle.frame.specs.Align.{startedBack}
-use Rattle.receiver.specs.declared.Points.{Points}
+use Rattle.receiver_slot.specs.declared.Points.{Points}
 use Rattle.receiver.specs.declared.Kept.{Kept}
 use Rattle.receiver.specs.declared.Receiver.{Receiver}
 use Rattle.receiver.specs.Started.{started, noPoints, newKept, keptOf}

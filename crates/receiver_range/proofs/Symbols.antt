@@ -52,7 +52,7 @@ use Rattle.frame.proofs.Theorems.{not-true, no-gap}
 use Rattle.receiver.specs.declared.Receiver.{Receiver}
 use Rattle.receiver.specs.Started.{started, keptOf}
 use Rattle.receiver.specs.Heads.{eventHeard, listened, losesIn}
-use Rattle.receiver.specs.Slot.{correctedAll, overfull, dueSymbols, waitingBefore}
+use Rattle.receiver_slot.specs.Slot.{correctedAll, overfull, dueSymbols, waitingBefore}
 use Rattle.receiver.specs.Symbol.{Input, Lent, nextOf, slotPast, rotated, synced, window, syncLeft, heads, slot, enough, left, lost, receiverAfter, past, full}
 use Rattle.receiver_range.specs.Coherent.{PhaseFits, Untouched, Adjoins, BackFits, CoherentReceiver}
 use Rattle.receiver_range.specs.Calls.{SymbolFits}

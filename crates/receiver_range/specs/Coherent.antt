@@ -24,7 +24,7 @@ use Rattle.eq_range.specs.Coherent.{Coherent as CoherentEq}
 use Rattle.frame_line.specs.declared.Meta.{Meta}
 use Rattle.frame_line.specs.declared.LastAt.the-variants.{Never, At}
 use Rattle.frame.specs.declared.Back.{Back}
-use Rattle.receiver.specs.declared.Points.{Points}
+use Rattle.receiver_slot.specs.declared.Points.{Points}
 use Rattle.receiver.specs.declared.Receiver.{Receiver}
 
 -- ---- a held head, of a sync that runs like this

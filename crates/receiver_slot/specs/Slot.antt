@@ -23,9 +23,9 @@ use Rattle.frame.specs.declared.Aligned.the-variants.{Nothing, Given}
 use Rattle.frame.specs.Align.{joinedTo, pushedBack}
 use Rattle.frame.specs.Answers.{fullBack}
 use Rattle.frame.specs.Stretch.{afterAll}
-use Rattle.receiver.specs.declared.Points.{Points}
-use Rattle.receiver.specs.declared.AlignedRun.{AlignedRun}
-use Rattle.receiver.specs.declared.Runs.{Runs}
+use Rattle.receiver_slot.specs.declared.Points.{Points}
+use Rattle.receiver_slot.specs.declared.AlignedRun.{AlignedRun}
+use Rattle.receiver_slot.specs.declared.Runs.{Runs}
 
 -- ---- "A corrected slot is aligned as in `Back::push`, five symbols late."
 -- its n corrected symbols in order

@@ -1,0 +1,2 @@
+-- The definitions that the contracts of receiver_slot cite, written from document 01, "The receiver" and "Refusals". n is the period, 9,296.
+pub mod Slot
