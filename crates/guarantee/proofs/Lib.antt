@@ -13,6 +13,7 @@ pub mod Refusals
 pub mod Follow
 pub mod Loads
 pub mod Lists
+pub mod Causes
 pub mod Losses
 pub mod Quiet
 pub mod Locks

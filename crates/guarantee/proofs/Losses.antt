@@ -1,6 +1,7 @@
 -- Answers and losses of a call. Assumes nothing.
 use Prim.Native.Nat.{ℕ, suc, _+_, _-_, _≤_, _<_}
 use Rattle.guarantee.proofs.Alike.{Same, same-all}
+use Rattle.guarantee.proofs.Causes.{causes, eighth-lost}
 use Rattle.guarantee.proofs.Follow.{after-is, fits, own-wrong, wrong-any}
 use Rattle.guarantee.proofs.Lists.{call-steps}
 use Rattle.guarantee.proofs.Loads.{end-answer}
@@ -184,5 +185,7 @@ module _ (s : System) (h : History) (t : Tied s h) where
       record {
         told = λ e. subst (Among (LostAt (nextIn h + 1))) (sym k) (lost-told-by c e);
         only = λ at w. lost-only-by c at (subst (Among (LostAt at)) k w);
+        kinds = causes s h t c;
+        eighth = eighth-lost s h t c;
         like-new = like-new c f rest;
       }

@@ -1,6 +1,6 @@
 -- DEMAND 3. For every list of a receiver's calls from a new one on, and for every loss in it. docs/GUARANTEE.md has it sentence by sentence beside
 -- the order and document 01.
-use Prim.Native.Nat.{ℕ, suc, _+_, _-_, _*_, _^_, _≤_, _<_}
+use Prim.Native.Nat.{ℕ, suc, _+_, _-_, _*_, _/_, _≤_, _<_}
 use mathlib.Core.Bool.{Bool, true, false}
 use mathlib.Core.List.{List, [], _∷_, _++_}
 use mathlib.Core.Logic.{_⊎_}
@@ -15,9 +15,10 @@ use Rattle.sync_step.specs.declared.Event.the-variants.{Nothing, Head, Period, 
 use Rattle.sync_step.specs.declared.Events.{Events}
 use Rattle.sync_step.specs.declared.SyncStats.{SyncStats}
 use Rattle.sync_step.specs.Step.{isLocked, offsetOf}
-use Rattle.sync_history.specs.History.{LockOn, LockBy, LossBy, Premise}
+use Rattle.sync_history.specs.History.{Eighth, LockOn, LockBy, LossBy, Premise, endOf}
 use Rattle.sync_tie.specs.Pushes.{Push, sizeAt}
 use Rattle.sync_tie.specs.Claims.{anyHead, HeadAt}
+use Rattle.sync_tie.specs.Story.{takenAt}
 use Rattle.demap.specs.Answers.{demapRefusal, demapBuffer}
 use Rattle.receiver.specs.declared.Receiver.{Receiver}
 use Rattle.receiver.specs.declared.Kept.{Kept}
@@ -85,6 +86,13 @@ keptAfter h (restarts at a) = keptIn h
 
 -- ---- what is claimed of a call c: h is the history before it, s the receiver with its stores, t what the call tells, rest the calls after it
 module _ (h : History) (s : System) (c : Call) (t : Told) (rest : List Call) where
+  -- the stretch, and how many symbols it had before
+  abbrev ps : List Push
+  ps = stretchWith h c
+
+  abbrev m : ℕ
+  m = length (h .pushes)
+
   -- "the receiver's answers are those that the definitions give": each refusal number, the events in order, and how many symbols ended sums counted
   pub record Answers : Type 0 where
     pub refusal : t .refusal ≡ refusalIn h c
@@ -95,17 +103,13 @@ module _ (h : History) (s : System) (c : Call) (t : Told) (rest : List Call) whe
   pub record Losses : Type 0 where
     pub told : losesBy h c ≡ true → Among (LostAt (nextIn h + 1)) (t .events)
     pub only : (at : ℕ) → Among (LostAt at) (t .events) → (losesBy h c ≡ true) × (at ≡ nextIn h + 1)
+    -- a loss is by "two missed markers in a row", or by "eight others in a row"; and the symbol that ends an eighth other period in a row loses
+    pub kinds : losesBy h c ≡ true → (takenAt 9296 (h .base) (h .last) ps (m - 23) .lost ≡ true) ⊎ ((p : ℕ) × Eighth 9296 (sizeAt ps) p ((m - 23) / 9296))
+    pub eighth : length ps ≡ suc m → (p k : ℕ) → Eighth 9296 (sizeAt ps) p k → length ps ≡ endOf 9296 k → losesBy h c ≡ true
     -- "from the next call on, its answers equal those of a new receiver started at that loss's restart position with the kept values of 01 and given
     -- the same calls", whatever that one's slot store holds
     pub like-new : losesBy h c ≡ true → (store : List ℤ) → length store ≡ 18592 →
         toldAll (afterCall s c) rest ≡ toldAll (begins (nextIn h + 1) (keptAfter h c) store) rest
-
-  -- the stretch, and how many symbols it had before
-  abbrev ps : List Push
-  ps = stretchWith h c
-
-  abbrev m : ℕ
-  m = length (h .pushes)
 
   -- "no head or soft bit comes before lock": only after a lock on an earlier symbol
   pub record BeforeLock : Type 0 where
