@@ -8,7 +8,10 @@ use Rattle.sync_step.specs.declared.Step.{Step}
 use Rattle.sync_step.specs.declared.Events.{Events}
 use Rattle.sync_tie.proofs.Theorems.{tie}
 use Rattle.sync_tie.specs.Claims.{anyHead}
-use Rattle.sync_tie.specs.Pushes.{Push, noPush}
+use Rattle.sync_corr.specs.Correlate.{bothOf, sizeOf}
+use Rattle.sync_corr.specs.declared.Both.{Both}
+use Rattle.sync_history.specs.History.{Premise}
+use Rattle.sync_tie.specs.Pushes.{Push, bothAt, flat, noPush, sizeAt}
 use Rattle.sync_tie.specs.Story.{losesAt, tells}
 use Rattle.sync_tie.specs.Tie.{Held, Kept, begun, pushOn, pushes, stepOn}
 use Rattle.receiver.specs.Heads.{losesIn}
@@ -16,11 +19,12 @@ use Rattle.guarantee.specs.History.{toldTo}
 use Rattle.guarantee.proofs.Lost.{tells-loses}
 use borrow.Author.Tests.{le-ltb, lt-ltb, ltb-false, ltb-true}
 use lib.Dec.{ltb, lit≤}
-use lib.ListN.{List·getD-append, getD, length, length-append}
+use lib.ListN.{List·getD-append, drop, getD, length, length-append, length-drop, take}
+use lib.Seq.{drop-append-le, take-append-le}
 
 use mathlib.Core.Bool.{Bool, false, true}
 use mathlib.Core.List.{List, [], _∷_, _++_}
-use mathlib.Core.Path.{_∙_, _≡_, ap, refl, sym}
+use mathlib.Core.Path.{_∙_, _≡_, ap, ap₂, refl, subst, sym}
 use native.Mathlib.Omega.{arith}
 
 pub pushes-prefix : (n : ℕ) (x : Held) (h e : List Push) (m : ℕ) → m ≤ length h → pushes n x (h ++ e) m ≡ pushes n x h m
@@ -72,3 +76,22 @@ told-prefix base last h e (suc m) l k =
     let g = told-prefix base last h e m (omega arith) (λ i b. k i (omega arith)) in
     let t = tells-prefix 9296 base last h e (lit≤ tt) m l (λ i b. k i (omega arith)) in
     ap (λ (v : ℕ). v + (if anyHead (tells 9296 base last (h ++ e) m) then 1 else 0)) g ∙ ap (λ (es : Events). toldTo base last h m + (if anyHead es then 1 else 0)) t
+
+-- ---- sizes stand too, so a stretch that meets the premise has met it at each of its calls
+both-prefix : (h e : List Push) (c : ℕ) → c + 23 < length h → bothAt (h ++ e) c ≡ bothAt h c
+unfolding bothAt
+both-prefix h e c l =
+    let x = List·getD-append h e noPush (c + 23) l in
+    let d : drop c (h ++ e) ≡ drop c h ++ e = drop-append-le c h e (omega arith) in
+    let t : take 24 (drop c h ++ e) ≡ take 24 (drop c h) = take-append-le 24 (drop c h) e (rw (length-drop c h) (omega arith)) in
+    ap₂ (λ (u : List Push) (y : Push). bothOf (flat u) (y .f) (y .w)) (ap (take 24) d ∙ t) x
+
+pub premise-earlier : (place P Q : ℕ) (h e : List Push) → Premise 9296 place P Q (sizeAt (h ++ e)) (length (h ++ e) - 23) → Premise 9296 place P Q (sizeAt h) (length h - 23)
+unfolding sizeAt
+premise-earlier place P Q h e p =
+    record {
+      within = p .within;
+      apart = p .apart;
+      there = λ j l k. subst (λ (b : Both). P ≤ sizeOf b) (both-prefix h e j (omega (arith, l))) (p .there j (rw (length-append h e) (omega (arith, l))) k);
+      elsewhere = λ j l k. subst (λ (b : Both). sizeOf b ≤ Q) (both-prefix h e j (omega (arith, l))) (p .elsewhere j (rw (length-append h e) (omega (arith, l))) k);
+    }
