@@ -1,5 +1,5 @@
 -- Accumulators stay numbers of 32 bits. Assumes nothing.
-use Prim.Native.Nat.{ℕ, zero, suc, _+_, _-_, _*_, _/_, _^_, _≤_, _<_}
+use Prim.Native.Nat.{ℕ, _-_, _^_, _≤_, _<_}
 use Rattle.laws.proofs.Tests.{by-test, if-both}
 use Rattle.receiver.specs.declared.Receiver.{Receiver}
 use Rattle.receiver.specs.Symbol.{Input, Lent, accAfter, rotated, synced}
@@ -18,13 +18,12 @@ use Rattle.sync_step.specs.declared.Step.{Step}
 use Rattle.sync_step.specs.declared.Stores.{Stores}
 use Rattle.sync_step.specs.declared.Stores.the-variants.{Nothing, One, Zeros}
 use Rattle.sync_step.specs.Step.{earlyOf, endedOf, keptOf, lateOf, lostAtEnd, lostOf, placeOf, stepOf}
-use borrow.Author.Tests.{eqb-false, eqb-true, ltb-false, ltb-true}
+use borrow.Author.Tests.{eqb-false, eqb-true}
 use lib.Dec.{eqb, ltb}
-use lib.IntN.{ℤ}
-use lib.ListN.{getD, getD-replicate, length, length-replicate, length-set, replicate, set}
+use lib.ListN.{getD, getD-replicate, length, length-replicate, length-set, set}
 use lib.Seq.{getD-set-other, getD-set-same}
 use mathlib.Core.List.{List}
-use mathlib.Core.Path.{_∙_, _≡_, ap, refl, subst, sym}
+use mathlib.Core.Path.{subst, sym}
 use native.Mathlib.Omega.{arith}
 
 -- what is stored is such a number

@@ -7,14 +7,14 @@ use Rattle.laws.specs.Choice.{if_then_else_}
 use Rattle.receiver.specs.declared.Answer.{Answer}
 use Rattle.receiver.specs.declared.Answered.{Answered}
 use Rattle.receiver.specs.declared.Receiver.{Receiver}
-use Rattle.receiver.specs.Answers.{loadedPoints, pointsRefusal, restartRefusal, eqAnswer, endAnswer, openAnswer, pointsAnswer, restartAcc, restartAnswer, storesFit, symbolAnswer, symbolLent, symbolRefusal, tapsAnswer, withEq, withPoints}
+use Rattle.receiver.specs.Answers.{loadedPoints, pointsRefusal, restartRefusal, eqAnswer, endAnswer, openAnswer, pointsAnswer, restartAnswer, storesFit, symbolAnswer, symbolRefusal, tapsAnswer, withEq, withPoints}
 use Rattle.receiver.specs.Ranges.{receiverInRange}
 use Rattle.receiver.specs.Started.{keptOf, started}
 use Rattle.receiver.specs.declared.Ended.{Ended}
 use Rattle.sums.specs.Sums.{emptySums}
 use Rattle.receiver.specs.Symbol.{Input, Lent}
 use Rattle.receiver_laws.proofs.Stores.{alike}
-use Rattle.receiver_laws.specs.Stores.{Agree, Alike, lent}
+use Rattle.receiver_laws.specs.Stores.{Agree, lent}
 use Rattle.guarantee.specs.Calls.{Accumulators, Call, SlotStore, System, Told, afterCall, handedAcc, handedStore, keptAcc, keptStore, lentTo, plain, toldAll, toldBy}
 use Rattle.guarantee.specs.Calls.{symbol, points, taps, opens, ends, restarts, own, wrong}
 use lib.Dec.{eqb, leb}
@@ -22,7 +22,7 @@ use lib.IntN.{ℤ}
 use lib.ListN.{length}
 use mathlib.Core.Bool.{Bool, false, true, _&&_}
 use mathlib.Core.List.{List, [], _∷_}
-use mathlib.Core.Path.{_∙_, _≡_, ap, ap₂, refl, sym, subst}
+use mathlib.Core.Path.{_≡_, ap, ap₂, refl, sym, subst}
 
 abbrev pub sys : Receiver → List ℕ → List ℤ → System
 sys r acc store = record { receiver = r; acc = acc; store = store }

@@ -1,6 +1,6 @@
 -- The kinds of losses: by markers, or by the eighth other period in a row. Assumes nothing.
-use Prim.Native.Nat.{ℕ, suc, _+_, _-_, _*_, _/_, _%_, _≤_, _<_}
-use Rattle.guarantee.proofs.Stretch.{grown-length, kept-before}
+use Prim.Native.Nat.{ℕ, suc, _-_, _/_, _%_, _≤_}
+use Rattle.guarantee.proofs.Stretch.{kept-before}
 use Rattle.guarantee.proofs.Tied.{Tied, is-lost}
 use Rattle.guarantee.specs.Calls.{Call, System}
 use Rattle.guarantee.specs.Calls.{symbol, points, taps, opens, ends, restarts}
@@ -10,7 +10,7 @@ use Rattle.laws.proofs.Tests.{and-both, by-test, never}
 use Rattle.laws.specs.Choice.{if-no, if-yes, if_then_else_}
 use Rattle.receiver.specs.Symbol.{Input}
 use Rattle.sync_heads.specs.declared.Record.{Record}
-use Rattle.sync_history.specs.Claims.{LosesIn, lockTo}
+use Rattle.sync_history.specs.Claims.{lockTo}
 use Rattle.sync_history.specs.History.{Eighth, endOf, figures}
 use Rattle.sync_lock.specs.Rule.{ruleOf}
 use Rattle.sync_lock.specs.declared.Verdict.{Verdict}
@@ -21,10 +21,9 @@ use Rattle.sync_tie.specs.Pushes.{Push, sizeAt}
 use Rattle.sync_tie.specs.Story.{endsAt, lockAt, losesAt, periodLoses, takenAt}
 use Rattle.sync_tie.specs.Tie.{Kept}
 use borrow.Author.Tests.{eq-eqb, le-leb}
-use lib.Dec.{eqb, leb, lit≤}
-use lib.IntN.{ℤ}
+use lib.Dec.{eqb, lit≤}
 use lib.ListN.{length}
-use mathlib.Core.Bool.{Bool, false, true, _&&_}
+use mathlib.Core.Bool.{true}
 use mathlib.Core.List.{List}
 use mathlib.Core.Logic.{_⊎_, inl, inr}
 use mathlib.Core.Path.{_∙_, _≡_, ap, refl, subst, sym}
@@ -63,7 +62,7 @@ module _ (base : ℕ) (last : Record) (g : List Push) (m : ℕ) (k : Kept 9296 b
       let n : (m - 23) % 9296 ≡ 9295 = omega (arith, e) in
       let r = rule-kept 9296 base last g m (lit≤ tt) k in
       let v : losesOf (ruleOf 9296 (lockTo 9296 (sizeAt g) ((m - 23) / 9296)) (figures 9296 (sizeAt g) ((m - 23) / 9296))) ≡ true =
-          loses-is _ (r .loses p (subst (Eighth 9296 (sizeAt g) p) (sym q) x)) in
+      loses-is _ (r .loses p (subst (Eighth 9296 (sizeAt g) p) (sym q) x)) in
       by-test (takenAt 9296 base last g (m - 23) .lost) (λ t. rw t) (λ t. rw (t, eq-eqb ((m - 23) % 9296) 9295 n) v)
 
 module _ (s : System) (h : History) (t : Tied s h) where

@@ -1,42 +1,27 @@
 -- Every call answers by the history, and keeps the tie. Assumes nothing.
-use Prim.Native.Nat.{ℕ, suc, _+_, _-_, _^_, _≤_, _<_}
-use Rattle.demap.specs.Answers.{badPoints, badScale}
-use Rattle.eq.specs.Eq.{loadedEq, withSums}
-use Rattle.eq.specs.declared.Equaliser.{Equaliser}
+use Prim.Native.Nat.{ℕ, _-_}
 use Rattle.guarantee.proofs.Refusals.{own-refusal, wrong-fit}
-use Rattle.guarantee.proofs.Slots.{Slots, isHeld}
-use Rattle.guarantee.proofs.Taken.{begins-tied, kept-eq, symbol-tied}
-use Rattle.guarantee.proofs.Tied.{SumsTied, Tied, acc-long, events-are, next-is, toldIn}
-use Rattle.guarantee.specs.Calls.{Accumulators, Call, CallFits, CallsFit, InputFits, SlotStore, System, Told, afterCall, afterCalls, begins, handedAcc, handedStore, keptAcc, keptStore, lentTo, plain, toldBy}
-use Rattle.guarantee.specs.Calls.{symbol, points, taps, opens, ends, restarts, own, wrong}
-use Rattle.guarantee.specs.History.{History, Training, accepts, beginsWith, eventsIn, eventsWith, happenAll, happens, keptIn, nextIn, ownAcc, ownStore, refusalIn, takes}
-use Rattle.guarantee.specs.History.{none, since}
-use Rattle.laws.proofs.Tests.{by-test, if-ap, never}
+use Rattle.guarantee.proofs.Taken.{symbol-tied}
+use Rattle.guarantee.proofs.Tied.{Tied, events-are}
+use Rattle.guarantee.specs.Calls.{Accumulators, Call, InputFits, SlotStore, System, afterCall, handedAcc, handedStore, keptAcc, keptStore, lentTo, toldBy}
+use Rattle.guarantee.specs.Calls.{symbol, own, wrong}
+use Rattle.guarantee.specs.History.{History, accepts, eventsIn, eventsWith, happens, ownAcc, ownStore, refusalIn, takes}
+use Rattle.laws.proofs.Tests.{by-test}
 use Rattle.laws.specs.Choice.{if-no, if-yes, if_then_else_}
 use Rattle.receiver.specs.declared.Answer.{Answer}
-use Rattle.receiver.specs.declared.Answered.{Answered}
-use Rattle.receiver.specs.declared.Ended.{Ended}
 use Rattle.receiver.specs.declared.Receiver.{Receiver}
-use Rattle.receiver.specs.Answers.{endAnswer, eqAnswer, loadedPoints, noRuns, openAnswer, pointsAnswer, pointsRefusal, restartAcc, restartAnswer, restartRefusal, storesFit, symbolAnswer, symbolLent, symbolRefusal, tapsAnswer, withEq, withPoints}
-use Rattle.receiver.specs.Ranges.{receiverInRange}
-use Rattle.receiver.specs.Started.{keptOf, started}
+use Rattle.receiver.specs.Answers.{noRuns, symbolAnswer, symbolLent, symbolRefusal}
 use Rattle.receiver.specs.Symbol.{Input, Lent, accAfter, lentAfter, receiverAfter, runs, storeAfter, synced}
-use Rattle.receiver_range.proofs.InRange.{in-range}
-use Rattle.receiver_range.proofs.Starts.{end-sums-coherent, loaded-points-fit, open-sums-coherent, points-coherent, restart-coherent, taps-coherent}
 use Rattle.receiver_range.proofs.Theorems.{symbol-accepts}
 use Rattle.receiver_range.specs.Calls.{SymbolFits}
-use Rattle.receiver_range.specs.Coherent.{CoherentReceiver}
-use Rattle.sums.specs.Sums.{emptySums}
-use Rattle.sync_step.specs.declared.Events.{Events}
 use Rattle.sync_step.specs.Events.{noEvents}
 use borrow.Author.Tests.{eq-eqb, eqb-true}
-use lib.Dec.{eqb, leb, ltb}
+use lib.Dec.{eqb}
 use lib.IntN.{ℤ}
-use lib.ListN.{length, replicate}
-use mathlib.Core.Bool.{Bool, false, true, _&&_}
-use mathlib.Core.List.{List, [], _∷_}
-use mathlib.Core.Path.{_∙_, _≡_, ap, ap₂, refl, subst, sym}
-use native.Mathlib.Omega.{arith}
+use lib.ListN.{length}
+use mathlib.Core.Bool.{false, _&&_}
+use mathlib.Core.List.{List}
+use mathlib.Core.Path.{_∙_, _≡_, ap, ap₂, refl, sym}
 
 pub record Steps (s : System) (h : History) (c : Call) : Type 0 where
   pub refusal : toldBy s c .refusal ≡ refusalIn h c

@@ -1,23 +1,19 @@
 -- What the heads of a call do to carrier and slot phase. Assumes nothing.
 use Prim.Native.Nat.{ℕ, _<_}
 use Rattle.carrier.specs.declared.Nco.{Nco}
-use Rattle.carrier.specs.Carrier.{heardOf}
 use Rattle.laws.proofs.Tests.{by-test, neither, never}
-use Rattle.phase.specs.declared.Due.{Due}
-use Rattle.phase.specs.declared.Due.the-variants.{Nothing as NoSlot, Slot}
+use Rattle.phase.specs.declared.Due.the-variants.{Nothing as NoSlot}
 use Rattle.phase.specs.declared.SlotPhase.{SlotPhase}
-use Rattle.phase.specs.Phase.{begunOf, dueIn}
 use Rattle.receiver.specs.declared.Listened.{Listened}
-use Rattle.receiver.specs.Heads.{eventHeard, listened, orDue}
+use Rattle.receiver.specs.Heads.{eventHeard, listened}
 use Rattle.receiver_laws.proofs.Heads.{Begun, From, untouched, begun-stays, event-from, head-begun}
-use Rattle.sync_heads.specs.declared.Head.{Head}
 use Rattle.sync_step.specs.declared.Event.{Event}
 use Rattle.sync_step.specs.declared.Event.the-variants.{Nothing, Head as Told, Period, Lost}
 use Rattle.sync_step.specs.declared.Events.{Events}
 use Rattle.sync_tie.specs.Claims.{anyHead, isHead}
 use Rattle.guarantee.specs.History.{heardEvent, heardEvents}
-use mathlib.Core.Bool.{Bool, false, true, _||_}
-use mathlib.Core.Path.{_∙_, _≡_, ap, refl, sym, subst}
+use mathlib.Core.Bool.{false, true, _||_}
+use mathlib.Core.Path.{_∙_, _≡_, ap, refl, sym}
 
 -- ---- the carrier hears what the history's hears
 event-nco : (n : ℕ) (l : Listened) (e : Event) → eventHeard n l e .nco ≡ heardEvent (l .nco) e

@@ -1,15 +1,14 @@
 -- Loads, training calls and restarts answer by the history, and keep the tie. Assumes nothing.
-use Prim.Native.Nat.{ℕ, suc, _+_, _-_, _^_, _≤_, _<_}
+use Prim.Native.Nat.{ℕ, _-_, _≤_}
 use Rattle.demap.specs.Answers.{badPoints, badScale}
 use Rattle.eq.specs.Eq.{loadedEq, withSums}
 use Rattle.eq.specs.declared.Equaliser.{Equaliser}
-use Rattle.eq.specs.declared.TapsFrom.the-variants.{Frame}
 use Rattle.guarantee.proofs.Follow.{Steps}
 use Rattle.guarantee.proofs.Slots.{Slots}
 use Rattle.guarantee.proofs.Taken.{begins-tied, kept-eq}
 use Rattle.guarantee.proofs.Tied.{SumsTied, Tied, acc-long, next-is, toldIn}
-use Rattle.guarantee.specs.Calls.{Accumulators, Call, System, afterCall, begins, handedAcc, keptAcc, plain, toldBy}
-use Rattle.guarantee.specs.Calls.{symbol, points, taps, opens, ends, restarts, own, wrong}
+use Rattle.guarantee.specs.Calls.{Call, System, afterCall, begins, handedAcc, keptAcc, plain, toldBy}
+use Rattle.guarantee.specs.Calls.{points, taps, opens, ends, restarts, own, wrong}
 use Rattle.guarantee.specs.History.{History, Training, accepts, beginsWith, eventsIn, happens, keptIn, nextIn, ownAcc, refusalIn}
 use Rattle.guarantee.specs.History.{none, since}
 use Rattle.laws.proofs.Tests.{by-test, if-cong, never}
@@ -17,27 +16,24 @@ use Rattle.laws.specs.Choice.{if-no, if-yes, if_then_else_}
 use Rattle.receiver.specs.declared.Answered.{Answered}
 use Rattle.receiver.specs.declared.Ended.{Ended}
 use Rattle.receiver.specs.declared.Kept.{Kept as KeptValues}
-use Rattle.receiver_slot.specs.declared.Points.{Points}
 use Rattle.receiver.specs.declared.Receiver.{Receiver}
 use Rattle.receiver.specs.Answers.{endAnswer, eqAnswer, loadedPoints, openAnswer, pointsAnswer, pointsRefusal, restartAcc, restartAnswer, restartRefusal, tapsAnswer, withEq, withPoints}
 use Rattle.receiver.specs.Ranges.{receiverInRange}
 use Rattle.receiver.specs.Started.{keptOf, started}
-use Rattle.receiver.specs.Symbol.{nextOf}
 use Rattle.receiver_range.proofs.InRange.{in-range}
 use Rattle.receiver_range.proofs.Starts.{end-sums-coherent, loaded-points-fit, open-sums-coherent, points-coherent, restart-coherent, taps-coherent}
 use Rattle.receiver_range.specs.Coherent.{CoherentReceiver, PointsFit}
 use Rattle.sums.specs.Sums.{emptySums}
 use Rattle.sync_tie.proofs.Follow.{follows}
-use Rattle.sync_tie.specs.Story.{heardTo}
 use Rattle.sync_tie.specs.Tie.{Held}
 use Rattle.sync_step.specs.declared.Run.{Run}
 use borrow.Author.Tests.{eq-eqb, eqb-true}
-use lib.Dec.{eqb, leb, lit≤, ltb}
+use lib.Dec.{eqb, lit≤, ltb}
 use lib.IntN.{ℤ}
 use lib.ListN.{length, replicate}
-use mathlib.Core.Bool.{Bool, false, true}
+use mathlib.Core.Bool.{false, true}
 use mathlib.Core.List.{List}
-use mathlib.Core.Path.{_∙_, _≡_, ap, ap₂, refl, subst, sym}
+use mathlib.Core.Path.{_∙_, _≡_, ap, refl, subst, sym}
 use native.Mathlib.Omega.{arith}
 
 -- ---- a constellation

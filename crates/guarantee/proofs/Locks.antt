@@ -1,11 +1,9 @@
 -- The lock, as the receiver has it and as a period's end tells it; relocking. Assumes nothing.
-use Prim.Native.Nat.{ℕ, suc, _+_, _-_, _*_, _/_, _%_, _≤_, _<_}
-use Rattle.guarantee.proofs.Follow.{Steps}
+use Prim.Native.Nat.{ℕ, suc, _+_, _-_, _*_, _≤_}
 use Rattle.guarantee.proofs.Lists.{call-steps}
-use Rattle.guarantee.proofs.Lost.{Quiet, heads-quiet}
 use Rattle.guarantee.proofs.Stretch.{grown-length, kept-before}
 use Rattle.guarantee.proofs.Tied.{Tied, not-lost}
-use Rattle.guarantee.specs.Calls.{Accumulators, Call, CallFits, SlotStore, System, Told, afterCall, toldBy}
+use Rattle.guarantee.specs.Calls.{Call, CallFits, System, afterCall, toldBy}
 use Rattle.guarantee.specs.Calls.{symbol, points, taps, opens, ends, restarts}
 use Rattle.guarantee.specs.Demand.{Among, IsPeriod, LockTold, Relocks, stretchWith}
 use Rattle.guarantee.specs.Demand.{in-first, in-second, in-third}
@@ -18,32 +16,31 @@ use Rattle.sync_heads.specs.declared.Record.{Record}
 use Rattle.sync_heads.specs.declared.Taken.{Taken}
 use Rattle.receiver.specs.Symbol.{Input}
 use Rattle.sync_history.proofs.Theorems.{lock-theorem}
-use Rattle.sync_history.specs.Claims.{lockTo}
 use Rattle.sync_history.specs.History.{LockBy, LockIn, LockOn, Premise, endOf}
 use Rattle.sync_lock.specs.declared.Lock.{Lock}
 use Rattle.sync_step.specs.declared.Event.{Event}
-use Rattle.sync_step.specs.declared.Event.the-variants.{Nothing, Head, Period, Lost}
+use Rattle.sync_step.specs.declared.Event.the-variants.{Nothing, Period}
 use Rattle.sync_step.specs.declared.Events.{Events}
 use Rattle.sync_step.specs.declared.Run.{Run}
 use Rattle.sync_step.specs.declared.SyncStats.{SyncStats}
 use Rattle.sync_step.specs.Events.{eventOf, headsOf, isNothing, noEvents, thenOf}
-use Rattle.sync_step.specs.Step.{isLocked, offsetOf, startedOf, statsOf}
+use Rattle.sync_step.specs.Step.{isLocked, offsetOf}
 use Rattle.sync_tie.proofs.Claims.{lock-told, readings-tell}
 use Rattle.sync_tie.proofs.Follow.{follows}
-use Rattle.sync_tie.proofs.Heads.{tells-late, tells-none}
+use Rattle.sync_tie.proofs.Heads.{tells-late}
 use Rattle.sync_tie.proofs.Places.{next-end}
 use Rattle.sync_tie.proofs.Step.{ends-place}
-use Rattle.sync_tie.specs.Claims.{HeadAt, anyHead}
+use Rattle.sync_tie.specs.Claims.{HeadAt}
 use Rattle.sync_tie.specs.Claims as Sync
 use Rattle.sync_tie.specs.Pushes.{Push, sizeAt}
 use Rattle.sync_tie.specs.Story.{endsAt, lockAt, losesAt, periodLoses, statsAt, takenAt, tells, toldAt}
-use Rattle.sync_tie.specs.Tie.{Held, Kept, begun, pushes}
-use borrow.Author.Tests.{eqb-true, ltb-false, ltb-true}
+use Rattle.sync_tie.specs.Tie.{Held, Kept, pushes}
+use borrow.Author.Tests.{ltb-false}
 use lib.Dec.{eqb, lit≤, ltb}
 use lib.IntN.{ℤ}
 use lib.ListN.{length}
-use mathlib.Core.Bool.{Bool, false, true}
-use mathlib.Core.List.{List, []}
+use mathlib.Core.Bool.{false, true}
+use mathlib.Core.List.{List}
 use mathlib.Core.Logic.{_⊎_, inl, inr}
 use mathlib.Core.Path.{_∙_, _≡_, ap, refl, subst, sym}
 use native.Mathlib.Omega.{arith}

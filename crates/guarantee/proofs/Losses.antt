@@ -1,5 +1,5 @@
 -- Answers and losses of a call. Assumes nothing.
-use Prim.Native.Nat.{ℕ, suc, _+_, _-_, _≤_, _<_}
+use Prim.Native.Nat.{ℕ, _+_, _-_}
 use Rattle.guarantee.proofs.Alike.{Same, same-all}
 use Rattle.guarantee.proofs.Causes.{causes, eighth-lost}
 use Rattle.guarantee.proofs.Follow.{after-is, fits, own-wrong, wrong-any}
@@ -9,7 +9,7 @@ use Rattle.guarantee.proofs.Lost.{Tells, lost-told, tells-loses}
 use Rattle.guarantee.proofs.Refusals.{own-refusal}
 use Rattle.guarantee.proofs.Taken.{lost-system, store-long}
 use Rattle.guarantee.proofs.Tied.{SumsTied, Tied, is-lost, late-test}
-use Rattle.guarantee.specs.Calls.{Accumulators, Call, CallFits, InputFits, SlotStore, System, Told, afterCall, begins, toldAll, toldBy}
+use Rattle.guarantee.specs.Calls.{Accumulators, Call, CallFits, InputFits, SlotStore, System, afterCall, begins, toldAll, toldBy}
 use Rattle.guarantee.specs.Calls.{symbol, points, taps, opens, ends, restarts, own, wrong}
 use Rattle.guarantee.specs.Demand.{Among, Answers, LostAt, Losses, keptAfter}
 use Rattle.guarantee.specs.Demand.{in-first, in-second, in-third}
@@ -17,8 +17,6 @@ use Rattle.guarantee.specs.History.{History, Training, countOf, endsWith
 use Rattle.guarantee.specs.History.{none, since}
 use Rattle.laws.proofs.Tests.{and-both, by-test, neither, never}
 use Rattle.laws.specs.Choice.{if-no, if-yes, if_then_else_}
-use Rattle.phase.specs.declared.SlotPhase.{SlotPhase}
-use Rattle.receiver.specs.declared.Ended.{Ended}
 use Rattle.receiver.specs.declared.Kept.{Kept}
 use Rattle.receiver.specs.Answers.{endAnswer, symbolRefusal}
 use Rattle.receiver.specs.Heads.{isLost, losesIn}
@@ -33,11 +31,11 @@ use Rattle.sync_step.specs.declared.Events.{Events}
 use Rattle.sync_step.specs.Events.{noEvents}
 use Rattle.sync_tie.proofs.Heads.{tells-late}
 use Rattle.sync_tie.specs.Story.{losesAt, tells, toldAt}
-use borrow.Author.Tests.{eq-eqb, eqb-true}
+use borrow.Author.Tests.{eqb-true}
 use lib.Dec.{eqb, leb}
 use lib.IntN.{ℤ}
 use lib.ListN.{length}
-use mathlib.Core.Bool.{Bool, false, true, _&&_, _||_}
+use mathlib.Core.Bool.{false, true, _&&_, _||_}
 use mathlib.Core.List.{List}
 use mathlib.Core.Path.{_∙_, _≡_, ap, refl, subst, sym}
 use native.Mathlib.Omega.{arith}
@@ -142,9 +140,11 @@ module _ (s : System) (h : History) (t : Tied s h) where
       let l : Lent = record { acc = s .acc; store = s .store; soft = soft } in
       let k = lost-parts s h t x soft own own e in
       let z : symbolRefusal (s .receiver) x l ≡ 0 = own-refusal s h t x soft ∙ eqb-true (refusalIn h (symbol x own own soft)) 0 (k .0) in
-      let q = symbol-accepts (s .receiver) x l (t .coherent) (fits s h t x soft f) z in
-      (storeAfter 9296 (s .receiver) x l, store-long s h t x soft (q .takes) (q .room),
-      after-is s h t x soft f z ∙ lost-system s h t x soft (q .takes) (q .room) (k .1))
+      let q = symbol-accepts (s .receiver) x l (t .coherent) (fits s h t x soft f) z in (
+        storeAfter 9296 (s .receiver) x l,
+        store-long s h t x soft (q .takes) (q .room),
+        after-is s h t x soft f z ∙ lost-system s h t x soft (q .takes) (q .room) (k .1),
+      )
 
   like-new : (c : Call) → CallFits c → (rest : List Call) → losesBy h c ≡ true → (store : List ℤ) → length store ≡ 18592 →
       toldAll (afterCall s c) rest ≡ toldAll (begins (nextIn h + 1) (keptAfter h c) store) rest

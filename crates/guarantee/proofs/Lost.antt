@@ -1,7 +1,7 @@
 -- A loss is told exactly where the pushes have one, with the position of the next symbol. Assumes nothing.
-use Prim.Native.Nat.{ℕ, _+_, _-_, _<_, _≤_, suc}
-use Rattle.laws.proofs.Tests.{by-test, if-both, if-either, never}
-use Rattle.laws.specs.Choice.{if-no, if-yes, if_then_else_}
+use Prim.Native.Nat.{ℕ, _+_, _-_}
+use Rattle.laws.proofs.Tests.{by-test, if-both, never}
+use Rattle.laws.specs.Choice.{if_then_else_}
 use Rattle.sync_corr.specs.declared.Corr.{Corr}
 use Rattle.sync_heads.specs.Frames.{fsyncCourse}
 use Rattle.sync_heads.specs.Heads.{bothHeads, firstOf, fsyncOf, fsyncTaken, headOf, isFsync, knownOf, readOf, ssyncOf, ssyncTaken}
@@ -22,16 +22,14 @@ use Rattle.sync_step.specs.declared.Event.the-variants.{Nothing, Head, Period, 
 use Rattle.sync_step.specs.declared.Events.{Events}
 use Rattle.sync_step.specs.declared.SyncStats.{SyncStats}
 use Rattle.sync_tie.specs.Pushes.{Push}
-use Rattle.sync_tie.specs.Story.{Heard, endsAt, heardTo, losesAt, periodLoses, readingAt, readsAt, statsAt, takenAt, tells, toldAt}
+use Rattle.sync_tie.specs.Story.{endsAt, heardTo, losesAt, periodLoses, readingAt, readsAt, statsAt, takenAt, tells, toldAt}
 use Rattle.receiver.specs.Heads.{isLost, losesIn}
 use Rattle.guarantee.specs.Demand.{LostAt, Among, in-first, in-second, in-third}
-use borrow.Author.Tests.{ltb-false}
 use lib.Dec.{ltb}
 use lib.Signed.{ltZ}
-use mathlib.Core.Bool.{Bool, false, true, _||_}
+use mathlib.Core.Bool.{false, true}
 use mathlib.Core.List.{List}
-use mathlib.Core.Path.{_∙_, _≡_, ap, refl, sym}
-use native.Mathlib.Omega.{arith}
+use mathlib.Core.Path.{_≡_, refl, sym}
 
 -- ---- a losing reading tells no second head
 one-head : (n : ℕ) (c : Course) (r : Reading) (last : Corr) → fsyncOf n c r last .lost ≡ true → fsyncOf n c r last .head ≡ NoHead

@@ -1,9 +1,8 @@
 -- What happened in a stretch stands as more symbols come: until one loses, the first m pushes of h ++ e tell what those of h tell. Assumes nothing.
 use Prim.Native.Nat.{ℕ, zero, suc, _+_, _-_, _<_, _≤_}
 use Rattle.laws.proofs.Tests.{by-test}
-use Rattle.laws.specs.Choice.{if-no, if-yes, if_then_else_}
+use Rattle.laws.specs.Choice.{if-no, if_then_else_}
 use Rattle.sync_heads.specs.declared.Record.{Record}
-use Rattle.sync_step.specs.declared.Event.{Event}
 use Rattle.sync_step.specs.declared.Step.{Step}
 use Rattle.sync_step.specs.declared.Events.{Events}
 use Rattle.sync_tie.proofs.Theorems.{tie}
@@ -17,13 +16,12 @@ use Rattle.sync_tie.specs.Tie.{Held, Kept, begun, pushOn, pushes, stepOn}
 use Rattle.receiver.specs.Heads.{losesIn}
 use Rattle.guarantee.specs.History.{toldTo}
 use Rattle.guarantee.proofs.Lost.{tells-loses}
-use borrow.Author.Tests.{le-ltb, lt-ltb, ltb-false, ltb-true}
+use borrow.Author.Tests.{le-ltb, ltb-true}
 use lib.Dec.{ltb, lit≤}
 use lib.ListN.{List·getD-append, drop, getD, length, length-append, length-drop, take}
 use lib.Seq.{drop-append-le, take-append-le}
-
-use mathlib.Core.Bool.{Bool, false, true}
-use mathlib.Core.List.{List, [], _∷_, _++_}
+use mathlib.Core.Bool.{false}
+use mathlib.Core.List.{List, _++_}
 use mathlib.Core.Path.{_∙_, _≡_, ap, ap₂, refl, subst, sym}
 use native.Mathlib.Omega.{arith}
 
@@ -43,8 +41,8 @@ module _ (n base : ℕ) (last : Record) (h e : List Push) (z : 0 < n) where
       let a = tie n base last (h ++ e) m z (omega (arith, long)) q .events in
       let b = tie n base last h m z l k .events in
       let s : stepOn n (pushes n (begun n base last) (h ++ e) m) (getD (h ++ e) m noPush) ≡ stepOn n (pushes n (begun n base last) h m) (getD h m noPush) =
-          ap (λ (y : Held). stepOn n y (getD (h ++ e) m noPush)) (pushes-prefix n (begun n base last) h e m (omega arith))
-          ∙ ap (stepOn n (pushes n (begun n base last) h m)) (List·getD-append h e noPush m l) in
+      ap (λ (y : Held). stepOn n y (getD (h ++ e) m noPush)) (pushes-prefix n (begun n base last) h e m (omega arith))
+      ∙ ap (stepOn n (pushes n (begun n base last) h m)) (List·getD-append h e noPush m l) in
       sym a ∙ ap (λ (t : Step). t .events) s ∙ b
 
   late-loses : (g : List Push) (c : ℕ) → losesIn (tells n base last g (c + 23)) ≡ losesAt n base last g c

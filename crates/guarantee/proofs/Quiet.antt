@@ -1,38 +1,36 @@
 -- No soft bit before lock, and none of a refused symbol. Assumes nothing.
-use Prim.Native.Nat.{ℕ, suc, _+_, _-_, _≤_, _<_}
+use Prim.Native.Nat.{ℕ, _-_, _≤_}
 use Rattle.guarantee.proofs.Follow.{answer-is, lent-is, own-wrong, says-1, wrong-any}
 use Rattle.guarantee.proofs.Lists.{call-steps}
 use Rattle.guarantee.proofs.Refusals.{own-refusal}
 use Rattle.guarantee.proofs.Slots.{none-heads}
 use Rattle.guarantee.proofs.Stretch.{grown-length, kept-before}
 use Rattle.guarantee.proofs.Tied.{Tied, events-are}
-use Rattle.guarantee.specs.Calls.{Accumulators, Call, CallFits, InputFits, SlotStore, System, Told, handedAcc, handedStore, lentTo, plain, toldBy}
+use Rattle.guarantee.specs.Calls.{Accumulators, Call, CallFits, InputFits, SlotStore, System, handedAcc, handedStore, lentTo, plain, toldBy}
 use Rattle.guarantee.specs.Calls.{symbol, points, taps, opens, ends, restarts, own, wrong}
-use Rattle.guarantee.specs.Demand.{BeforeLock, NoSoft, softOf, stretchWith}
+use Rattle.guarantee.specs.Demand.{BeforeLock, NoSoft, stretchWith}
 use Rattle.guarantee.specs.History.{History, eventsIn, eventsWith, pushOf, refusalIn, withSymbol}
 use Rattle.laws.proofs.Tests.{by-test, never}
 use Rattle.laws.specs.Choice.{if-no, if-yes, if_then_else_}
-use Rattle.phase.specs.declared.Corrected.{Corrected}
 use Rattle.receiver.specs.declared.Answer.{Answer}
 use Rattle.receiver.specs.declared.Receiver.{Receiver}
 use Rattle.receiver.specs.Answers.{noRuns, symbolAnswer, symbolLent, symbolRefusal}
-use Rattle.receiver_slot.specs.Slot.{alignedAll, noRun, runOf, runsOf, softAll, waitingBefore, writtenOn}
-use Rattle.receiver.specs.Symbol.{Input, Lent, aligned, lentAfter, receiverAfter, runs, slot, softAfter, synced}
+use Rattle.receiver_slot.specs.Slot.{alignedAll, runOf, runsOf, softAll, waitingBefore, writtenOn}
+use Rattle.receiver.specs.Symbol.{Input, Lent, aligned, lentAfter, runs, slot, softAfter, synced}
 use Rattle.receiver_range.proofs.Symbols.{none-due}
 use Rattle.sync_history.proofs.Theorems.{no-lock-before}
 use Rattle.sync_history.specs.History.{LockBy}
-use Rattle.sync_step.specs.declared.Events.{Events}
 use Rattle.sync_step.specs.Events.{noEvents}
 use Rattle.sync_tie.proofs.Claims.{heads-after-lock}
 use Rattle.sync_tie.specs.Claims.{anyHead, isHead}
-use Rattle.sync_tie.specs.Pushes.{Push, sizeAt}
-use borrow.Author.Tests.{eq-eqb, eqb-true}
+use Rattle.sync_tie.specs.Pushes.{sizeAt}
+use borrow.Author.Tests.{eqb-true}
 use lib.Dec.{eqb, lit≤}
 use lib.IntN.{ℤ}
-use lib.ListN.{drop, length, take}
-use mathlib.Core.Bool.{Bool, false, true}
-use mathlib.Core.List.{List, [], _∷_, _++_}
-use mathlib.Core.Path.{_∙_, _≡_, ap, refl, subst, sym}
+use lib.ListN.{length}
+use mathlib.Core.Bool.{false, true}
+use mathlib.Core.List.{List, []}
+use mathlib.Core.Path.{_∙_, _≡_, ap, refl, sym}
 use native.Mathlib.Omega.{arith}
 
 -- ---- no slot, no soft bit

@@ -1,31 +1,29 @@
 -- Refusals are those of the history. Assumes nothing.
-use Prim.Native.Nat.{ℕ, _+_, _-_, _%_, _^_, _≤_, _<_}
+use Prim.Native.Nat.{ℕ, _+_, _-_, _^_}
 use Rattle.guarantee.proofs.Slots.{Sums, symbol-sums, trainingsBy}
 use Rattle.guarantee.proofs.Taken.{trainings-are}
 use Rattle.guarantee.proofs.Tied.{SumsTied, Tied, acc-long, head-locked, next-is, toldIn}
-use Rattle.guarantee.specs.Calls.{Accumulators, Call, InputFits, SlotStore, System, handedAcc, handedStore, lentTo}
-use Rattle.guarantee.specs.Calls.{symbol, points, taps, opens, ends, restarts, own, wrong}
+use Rattle.guarantee.specs.Calls.{Accumulators, SlotStore, System, handedAcc, handedStore, lentTo}
+use Rattle.guarantee.specs.Calls.{symbol, own, wrong}
 use Rattle.guarantee.specs.History.{History, Training, fullBy, nextIn, ownAcc, ownStore, refusalIn, trainingsWith}
 use Rattle.guarantee.specs.History.{none, since}
-use Rattle.laws.proofs.Tests.{and-both, by-test, if-cong, never}
-use Rattle.laws.specs.Choice.{if-no, if-yes, if_then_else_}
+use Rattle.laws.proofs.Tests.{and-both, if-cong, never}
+use Rattle.laws.specs.Choice.{if-yes, if_then_else_}
 use Rattle.receiver.specs.declared.Receiver.{Receiver}
 use Rattle.receiver.specs.Answers.{storesFit, symbolRefusal}
 use Rattle.receiver.specs.Ranges.{receiverInRange}
-use Rattle.receiver.specs.Symbol.{Input, Lent, full, nextOf, past, synced}
+use Rattle.receiver.specs.Symbol.{Input, Lent, full, past, synced}
 use Rattle.receiver_range.proofs.InRange.{in-range}
-use Rattle.receiver_range.proofs.Symbols.{Takes, past-is}
-use Rattle.receiver_range.specs.Calls.{SymbolFits}
+use Rattle.receiver_range.proofs.Symbols.{past-is}
 use Rattle.sync_corr.specs.Correlate.{onesOf}
 use Rattle.sync_tie.specs.Claims.{anyHead}
-use borrow.Author.Tests.{eq-eqb, eqb-true, leb-false, leb-true}
+use borrow.Author.Tests.{eq-eqb}
 use lib.Dec.{eqb, leb, ltb}
 use lib.IntN.{ℤ}
 use lib.ListN.{length}
 use mathlib.Core.Bool.{Bool, false, true, _&&_}
 use mathlib.Core.List.{List}
-use mathlib.Core.Path.{_∙_, _≡_, ap, ap₂, refl, subst, sym}
-use native.Mathlib.Omega.{arith}
+use mathlib.Core.Path.{_∙_, _≡_, ap, ap₂, refl}
 
 no-right : (a : Bool) {b : Bool} → b ≡ false → (a && b) ≡ false
 no-right false e = refl

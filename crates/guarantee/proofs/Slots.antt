@@ -1,12 +1,10 @@
 -- Slots and trainings of one symbol: k symbols of the stretch have told a head before it. Assumes nothing.
-use Prim.Native.Nat.{ℕ, _+_, _-_, _*_, _%_, _≤_, _<_}
+use Prim.Native.Nat.{ℕ, _+_, _-_, _%_, _≤_}
 use Rattle.frame.specs.declared.Back.{Back}
 use Rattle.frame.specs.Stretch.{afterAll}
 use Rattle.guarantee.proofs.Heads.{head-heard, none-heard}
 use Rattle.laws.proofs.Tests.{by-test, never}
-use Rattle.laws.specs.Choice.{if-no, if-yes, if_then_else_}
-use Rattle.phase.specs.declared.Corrected.{Corrected}
-use Rattle.phase.specs.declared.Due.{Due}
+use Rattle.laws.specs.Choice.{if-yes, if_then_else_}
 use Rattle.phase.specs.declared.Due.the-variants.{Nothing as NoSlot, Slot}
 use Rattle.phase.specs.declared.Held.{Held}
 use Rattle.phase.specs.declared.SlotPhase.{SlotPhase}
@@ -20,21 +18,18 @@ use Rattle.sync_corr.specs.Correlate.{onesOf}
 use Rattle.receiver.specs.Symbol.{Input, Lent, enough, full, heads, left, slot, synced}
 use Rattle.receiver_laws.proofs.Heads.{Begun}
 use Rattle.receiver_range.proofs.Slots.{Trains, slot-adjoins, slot-opened}
-use Rattle.receiver_range.proofs.Symbols.{Due-is, Takes, due-is, none-due, slot-is, symbol-trains}
+use Rattle.receiver_range.proofs.Symbols.{due-is, none-due, slot-is, symbol-trains}
 use Rattle.receiver_range.specs.Coherent.{Adjoins, CoherentReceiver, HeldFits, PhaseFits, Untouched}
 use Rattle.sync_lock.specs.declared.Lock.{Lock}
 use Rattle.sync_lock.specs.Rule.{lockedAt}
-use Rattle.sync_heads.specs.declared.Head.{Head}
 use Rattle.sync_range.specs.Coherent.{LockFits, LockedFits}
 use Rattle.sync_step.specs.declared.Run.{Run}
 use Rattle.sync_step.specs.declared.Events.{Events}
-use Rattle.sync_step.specs.Step.{placeOf}
 use Rattle.sync_tie.specs.Claims.{anyHead}
 use borrow.Author.Tests.{eq-eqb, eqb-false, eqb-true, le-ltb, ne-eqb}
 use lib.Dec.{eqb, lit≤, ltb}
-use lib.IntN.{ℤ}
-use mathlib.Core.Bool.{Bool, false, true, _&&_}
-use mathlib.Core.List.{List, []}
+use mathlib.Core.Bool.{Bool, false, true}
+use mathlib.Core.List.{[]}
 use mathlib.Core.Logic.{_⊎_, inl, inr}
 use mathlib.Core.Path.{_∙_, _≡_, ap, refl, subst, sym}
 use native.Mathlib.Omega.{arith}

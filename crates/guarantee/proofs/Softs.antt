@@ -1,6 +1,5 @@
 -- The soft bits of a call: they stand in the buffer, fit it, and are true. Assumes nothing.
-use Prim.Native.Nat.{ℕ, _+_, _≤_, _<_}
-use Rattle.frame.specs.declared.AlignedSymbol.{AlignedSymbol}
+use Prim.Native.Nat.{ℕ, _≤_}
 use Rattle.frame.specs.declared.Back.{Back}
 use Rattle.guarantee.proofs.Follow.{lent-is, own-wrong, says-1, wrong-any}
 use Rattle.guarantee.proofs.Quiet.{one-not}
@@ -15,7 +14,7 @@ use Rattle.phase.specs.declared.Due.the-variants.{Nothing as NoSlot, Slot}
 use Rattle.phase.specs.declared.SlotPhase.{SlotPhase}
 use Rattle.phase.specs.declared.SlotPhase.the-variants.{Idle, Holds}
 use Rattle.receiver.specs.Answers.{symbolLent, symbolRefusal}
-use Rattle.receiver_slot.specs.Slot.{alignedAll, correctedAll, dueSymbols, softAll, writtenOn}
+use Rattle.receiver_slot.specs.Slot.{alignedAll, dueSymbols, softAll, writtenOn}
 use Rattle.receiver.specs.Symbol.{Input, Lent, aligned, heads, lentAfter, slot, softAfter}
 use Rattle.receiver_slot.specs.declared.Points.{Points}
 use Rattle.receiver.specs.declared.Receiver.{Receiver}
@@ -27,7 +26,7 @@ use lib.IntN.{ℤ}
 use lib.ListN.{length}
 use mathlib.Core.List.{List}
 use mathlib.Core.Logic.{_⊎_, ⊎-elim}
-use mathlib.Core.Path.{_∙_, _≡_, ap, refl, subst, sym}
+use mathlib.Core.Path.{_∙_, _≡_, ap, subst, sym}
 use native.Mathlib.Omega.{arith}
 
 -- ---- what waits between calls: nothing, or the last five of a slot

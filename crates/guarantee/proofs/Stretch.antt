@@ -1,8 +1,7 @@
 -- One symbol more of a stretch: what the slot sync makes of it. Assumes nothing.
-use Prim.Native.Nat.{ℕ, suc, _+_, _-_, _<_, _≤_}
-use Rattle.laws.proofs.Tests.{and-both, by-test, never}
+use Prim.Native.Nat.{ℕ, suc, _+_, _-_, _≤_}
+use Rattle.laws.proofs.Tests.{by-test}
 use Rattle.sync_heads.specs.declared.Record.{Record}
-use Rattle.sync_step.specs.declared.Step.{Step}
 use Rattle.sync_step.specs.declared.Run.{Run}
 use Rattle.sync_tie.proofs.Follow.{follows}
 use Rattle.sync_tie.proofs.Theorems.{tie}
@@ -10,14 +9,13 @@ use Rattle.sync_tie.specs.Pushes.{Push, noPush}
 use Rattle.sync_tie.specs.Story.{lockAt, losesAt, recordAt, tells}
 use Rattle.sync_tie.specs.Tie.{Held, Kept, begun, pushOn, pushes, stepOn}
 use Rattle.guarantee.proofs.Prefix.{kept-prefix, pushes-prefix}
-use borrow.Author.Tests.{le-leb, leb-true, ltb-false, ltb-true}
-use lib.Dec.{leb, lit≤, ltb}
+use borrow.Author.Tests.{ltb-false, ltb-true}
+use lib.Dec.{lit≤, ltb}
 use lib.ListN.{getD, length, length-append}
 use lib.Seq.{getD-append-add}
-use mathlib.Core.Bool.{false, true, _&&_}
+use mathlib.Core.Bool.{false, true}
 use mathlib.Core.List.{List, [], _∷_, _++_}
-use mathlib.Core.Path.{_∙_, _≡_, ap, refl, sym, subst}
-use native.Mathlib.Nat.{add-zero}
+use mathlib.Core.Path.{_∙_, _≡_, ap, sym, subst}
 use native.Mathlib.Omega.{arith}
 
 module _ (base : ℕ) (last : Record) (h : List Push) (p : Push) where

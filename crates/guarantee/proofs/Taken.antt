@@ -1,13 +1,10 @@
 -- An accepted symbol keeps the tie: the one that goes on, and the one that loses. Assumes nothing.
-use Prim.Native.Nat.{ℕ, suc, _+_, _-_, _%_, _^_, _≤_, _<_}
+use Prim.Native.Nat.{ℕ, suc, _+_, _-_, _^_, _<_}
 use Rattle.carrier.specs.declared.Nco.{Nco}
-use Rattle.carrier.specs.Carrier.{startedNco}
-use Rattle.eq.specs.declared.Equaliser.{Equaliser}
 use Rattle.eq.specs.declared.TapsFrom.{TapsFrom}
 use Rattle.eq.specs.Eq.{startedEq}
 use Rattle.frame.specs.Align.{startedBack}
 use Rattle.receiver_slot.specs.declared.Points.{Points}
-use Rattle.frame.specs.declared.Back.{Back}
 use Rattle.guarantee.proofs.Accs.{acc-short}
 use Rattle.guarantee.proofs.Prefix.{told-prefix}
 use Rattle.guarantee.proofs.Slots.{Slots, Sums, isHeld, symbol-slots, symbol-sums, trainingsBy}
@@ -15,17 +12,15 @@ use Rattle.guarantee.proofs.Stretch.{grown-length, step-kept, step-lost
 use Rattle.guarantee.proofs.Taps.{after-taps}
 use Rattle.guarantee.proofs.Tied.{SumsTied, Tied, events-are, head-locked, is-lost, lost-is, nco-is, next-held, next-is, not-lost, toldIn}
 use Rattle.guarantee.specs.Calls.{System, begins}
-use Rattle.guarantee.specs.History.{History, Training, beginsWith, carrierWith, eventsWith, goesOn, keptOver, losesWith, nextIn, pushOf, takes, toldTo, trainedBy, trainingsWith, withSymbol}
+use Rattle.guarantee.specs.History.{History, Training, beginsWith, eventsWith, goesOn, keptOver, losesWith, nextIn, pushOf, takes, toldTo, trainedBy, trainingsWith, withSymbol}
 use Rattle.guarantee.specs.History.{none, since}
-use Rattle.laws.proofs.Tests.{by-test, if-both, never}
+use Rattle.laws.proofs.Tests.{by-test, if-both}
 use Rattle.laws.specs.Choice.{if-no, if-yes, if_then_else_}
-use Rattle.phase.specs.Phase.{storedIn}
 use Rattle.phase_range.proofs.Theorems.{length-stored}
 use Rattle.receiver.specs.declared.Kept.{Kept as KeptValues}
 use Rattle.receiver.specs.declared.Receiver.{Receiver}
 use Rattle.receiver.specs.Started.{keptOf, started}
 use Rattle.receiver.specs.Symbol.{Input, Lent, accAfter, back23, enough, full, heads, left, lost, nextOf, receiverAfter, slot, storeAfter, syncLeft, synced}
-use Rattle.receiver_range.proofs.Starts.{started-coherent}
 use Rattle.receiver_range.proofs.Symbols.{Takes, coherent-symbol}
 use Rattle.receiver_range.specs.Coherent.{CoherentReceiver}
 use Rattle.sync.specs.Sync.{startedSync}
@@ -33,13 +28,12 @@ use Rattle.sync_step.specs.Step.{startedOf}
 use Rattle.sync_heads.specs.declared.Record.{Record}
 use Rattle.sync_step.specs.declared.Events.{Events}
 use Rattle.sync_tie.specs.Claims.{anyHead}
-use Rattle.sync_tie.specs.Pushes.{Push}
-use Rattle.sync_tie.specs.Story.{losesAt, recordAt, tells}
+use Rattle.sync_tie.specs.Story.{recordAt}
 use Rattle.sync_tie.specs.Tie.{Held, Kept, begun, pushes}
 use lib.IntN.{ℤ}
 use lib.ListN.{getD, getD-replicate, length, length-replicate, replicate}
-use mathlib.Core.Bool.{Bool, false, true}
-use mathlib.Core.List.{List, []}
+use mathlib.Core.Bool.{false, true}
+use mathlib.Core.List.{List}
 use mathlib.Core.Path.{_∙_, _≡_, ap, ap₂, refl, subst, sym}
 use native.Mathlib.Omega.{arith}
 
@@ -198,7 +192,7 @@ module _ (s : System) (h : History) (t : Tied s h) (x : Input) (soft : List ℤ)
           let k = keptOf (left 9296 r x l) in
           let y = started (nextOf r + 1) k in
           let i : (if q then y else left 9296 r x l) ≡ started (nextIn h + 1) (keptOver h x) =
-              if-yes q y (left 9296 r x l) (lost-is s h t x soft ∙ e) ∙ ap₂ (λ (n : ℕ) (v : KeptValues). started (n + 1) v) (next-is s h t) kept-are in
+          if-yes q y (left 9296 r x l) (lost-is s h t x soft ∙ e) ∙ ap₂ (λ (n : ℕ) (v : KeptValues). started (n + 1) v) (next-is s h t) kept-are in
           ap₂ (λ (v : Receiver) (u : List ℕ). record { receiver = v; acc = u; store = storeAfter 9296 r x l }) i zeros-are
 
       pub lost-tied : Tied (record { receiver = receiverAfter 9296 r x l; acc = accAfter 9296 r x l; store = storeAfter 9296 r x l }) (beginsWith (nextIn h + 1) (keptOver h x))

@@ -1,6 +1,5 @@
 -- Corrected symbols leave the taps and their frame. Assumes nothing.
 use Rattle.eq.specs.declared.Equaliser.{Equaliser}
-use Rattle.eq.specs.declared.TapsFrom.{TapsFrom}
 use Rattle.eq.specs.Eq.{pushedEq, startedEq, trainedEq, trainsEq, withSums}
 use Rattle.frame.specs.declared.Back.{Back}
 use Rattle.frame.specs.declared.Pushed.{Pushed}

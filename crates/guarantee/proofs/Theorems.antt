@@ -12,12 +12,11 @@ use Rattle.guarantee.specs.History.{History, beginsWith, happenAll}
 use Rattle.laws.specs.Choice.{if-yes}
 use Rattle.receiver.specs.Answers.{newAcc, newAnswer}
 use Rattle.receiver.specs.Started.{newKept, started}
-use Rattle.receiver.specs.declared.Answered.{Answered}
 use borrow.Author.Tests.{eq-eqb}
 use lib.Dec.{eqb}
 use lib.IntN.{ℤ}
 use lib.ListN.{length, replicate}
-use mathlib.Core.List.{List, _∷_, _++_}
+use mathlib.Core.List.{List}
 use mathlib.Core.Path.{_∙_, _≡_, ap, subst}
 
 -- one call of a receiver that stands as its history says
@@ -40,9 +39,10 @@ unfolding newAnswer newAcc
 new-is at step acc e =
     let q = eq-eqb (length acc) 9296 e in
     let k = started at (newKept step) in
-    let z : List ℕ = replicate (length acc) 0 in
-    (if-yes (eqb (length acc) 9296) (record { refusal = 0; receiver = k }) (record { refusal = 1; receiver = k }) q,
-    if-yes (eqb (length acc) 9296) z acc q ∙ ap (λ (n : ℕ). replicate n 0) e)
+    let z : List ℕ = replicate (length acc) 0 in (
+      if-yes (eqb (length acc) 9296) (record { refusal = 0; receiver = k }) (record { refusal = 1; receiver = k }) q,
+      if-yes (eqb (length acc) 9296) z acc q ∙ ap (λ (n : ℕ). replicate n 0) e,
+    )
 
 pub demand-3 : DemandClaim
 demand-3 at step store cs long fit =

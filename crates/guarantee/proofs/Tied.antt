@@ -1,18 +1,15 @@
 -- A receiver with its stores stands as the history of its calls says. Assumes nothing.
-use Prim.Native.Nat.{ℕ, suc, _+_, _-_, _%_, _^_, _≤_, _<_}
+use Prim.Native.Nat.{ℕ, _-_, _%_, _^_, _≤_, _<_}
 use Rattle.guarantee.proofs.Heads.{nco-heard}
 use Rattle.guarantee.proofs.Lost.{tells-loses}
-use Rattle.guarantee.proofs.Prefix.{told-prefix}
-use Rattle.guarantee.proofs.Slots.{Slots, Sums, isHeld, symbol-slots, symbol-sums, trainingsBy}
-use Rattle.guarantee.proofs.Stretch.{grown-length, lock-now, newest, step-events, step-kept, step-lost, step-next, where-now}
-use Rattle.guarantee.proofs.Taps.{after-taps}
-use Rattle.guarantee.specs.Calls.{System, begins}
-use Rattle.guarantee.specs.History.{History, Training, beginsWith, carrierWith, eventsWith, fullBy, goesOn, heardEvents, keptOver, losesWith, nextIn, pushOf, takes, toldTo, trainedBy, trainingsWith, withSymbol}
+use Rattle.guarantee.proofs.Slots.{Slots}
+use Rattle.guarantee.proofs.Stretch.{lock-now, step-events, where-now}
+use Rattle.guarantee.specs.Calls.{System}
+use Rattle.guarantee.specs.History.{History, Training, carrierWith, eventsWith, heardEvents, losesWith, nextIn, pushOf, toldTo, withSymbol}
 use Rattle.guarantee.specs.History.{none, since}
 use Rattle.receiver.specs.Heads.{losesIn}
 use Rattle.receiver.specs.Symbol.{Input, Lent, accAfter, heads, lost, nextOf, rotated, syncLeft, synced, window}
 use Rattle.receiver.specs.declared.Receiver.{Receiver}
-use Rattle.receiver.specs.declared.Kept.{Kept as KeptValues}
 use Rattle.eq.specs.declared.Equaliser.{Equaliser}
 use Rattle.receiver_range.specs.Coherent.{CoherentReceiver}
 use Rattle.sync_tie.specs.Pushes.{Push, noPush}
@@ -25,16 +22,15 @@ use Rattle.laws.proofs.Tests.{and-both, by-test, never}
 use Rattle.laws.specs.Choice.{if_then_else_}
 use Rattle.sync_step.specs.declared.Events.{Events}
 use Rattle.sync_tie.specs.Claims.{anyHead}
-use Rattle.sync_tie.specs.Story.{losesAt, readsAt, lockAt, tells, toldAt}
+use Rattle.sync_tie.specs.Story.{losesAt, readsAt, lockAt}
 use Rattle.sync_tie.proofs.Heads.{tells-late, tells-none, told-none}
 use Rattle.sync_lock.specs.Rule.{lockedAt}
 use borrow.Author.Tests.{le-leb, leb-true, lt-leb, ltb-false, ltb-true}
 use lib.Dec.{leb, ltb}
 use lib.ListN.{getD, length}
 use mathlib.Core.Bool.{Bool, false, true, _&&_}
-use mathlib.Core.List.{List, []}
-use mathlib.Core.Path.{_∙_, _≡_, ap, ap₂, refl, subst, sym}
-use native.Mathlib.Omega.{arith}
+use mathlib.Core.List.{List}
+use mathlib.Core.Path.{_∙_, _≡_, ap, ap₂, refl, sym}
 
 -- ---- sums as the history has them
 abbrev pub SumsTied : Training → Equaliser → Type 0

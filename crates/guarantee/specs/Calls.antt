@@ -1,6 +1,6 @@
 -- A list of a receiver's calls, and what each of them tells.
-use Prim.Native.Nat.{ℕ, _^_, _<_, _≤_}
-use mathlib.Core.Bool.{Bool, true, false}
+use Prim.Native.Nat.{ℕ, _<_}
+use mathlib.Core.Bool.{Bool, false}
 use mathlib.Core.List.{List, [], _∷_}
 use mathlib.Core.Path.{_≡_}
 use lib.Dec.{eqb}
@@ -15,10 +15,7 @@ use Rattle.sums.specs.Sums.{emptySums}
 use Rattle.receiver.specs.declared.Receiver.{Receiver}
 use Rattle.receiver.specs.declared.Kept.{Kept}
 use Rattle.receiver_slot.specs.declared.Runs.{Runs}
-use Rattle.receiver.specs.declared.Answer.{Answer}
-use Rattle.receiver.specs.declared.Answered.{Answered}
-use Rattle.receiver.specs.declared.Ended.{Ended}
-use Rattle.receiver.specs.Started.{started, newKept}
+use Rattle.receiver.specs.Started.{started}
 use Rattle.receiver.specs.Symbol.{Input, Lent}
 use Rattle.receiver.specs.Answers.{noRuns, symbolAnswer, symbolLent, pointsAnswer, tapsAnswer, openAnswer, endAnswer, restartAnswer, restartAcc}
 

@@ -1,14 +1,13 @@
 -- DEMAND 3. For every list of a receiver's calls from a new one on, and for every loss in it. docs/GUARANTEE.md has it sentence by sentence beside
 -- the order and document 01.
 use Prim.Native.Nat.{ℕ, suc, _+_, _-_, _*_, _/_, _≤_, _<_}
-use mathlib.Core.Bool.{Bool, true, false}
+use mathlib.Core.Bool.{true, false}
 use mathlib.Core.List.{List, [], _∷_, _++_}
 use mathlib.Core.Logic.{_⊎_}
 use mathlib.Core.Path.{_≡_}
 use lib.Dec.{eqb}
-use lib.IntN.{ℤ, pos, natAbs}
+use lib.IntN.{ℤ, pos}
 use lib.ListN.{length, getD, replicate}
-use lib.Signed.{_<ℤ_}
 use Rattle.laws.specs.Choice.{if_then_else_}
 use Rattle.sync_step.specs.declared.Event.{Event}
 use Rattle.sync_step.specs.declared.Event.the-variants.{Nothing, Head, Period, Lost}
@@ -20,9 +19,7 @@ use Rattle.sync_tie.specs.Pushes.{Push, sizeAt}
 use Rattle.sync_tie.specs.Claims.{anyHead, HeadAt}
 use Rattle.sync_tie.specs.Story.{takenAt}
 use Rattle.demap.specs.Answers.{demapRefusal, demapBuffer}
-use Rattle.receiver.specs.declared.Receiver.{Receiver}
 use Rattle.receiver.specs.declared.Kept.{Kept}
-use Rattle.receiver_slot.specs.declared.Runs.{Runs}
 use Rattle.receiver.specs.Started.{started, newKept}
 use Rattle.receiver_slot.specs.Slot.{softAll, writtenOn}
 use Rattle.receiver.specs.Symbol.{Input, Lent, aligned}
@@ -30,7 +27,7 @@ use Rattle.receiver.specs.Answers.{noRuns, newAnswer, newAcc}
 use Rattle.receiver_laws.specs.Softs.{BitTrue, SoftTrue}
 use Rattle.guarantee.specs.Calls.{Accumulators, SlotStore, Call, System, Told, CallsFit, begins, lentTo, afterCall, afterCalls, toldBy, toldAll}
 use Rattle.guarantee.specs.Calls.{symbol, points, taps, opens, ends, restarts}
-use Rattle.guarantee.specs.History.{History, beginsWith, nextIn, pushOf, withSymbol, keptIn, keptOver, refusalIn, eventsIn, losesBy, endsStretch, happenAll, endsWith, countOf}
+use Rattle.guarantee.specs.History.{History, beginsWith, nextIn, withSymbol, keptIn, keptOver, refusalIn, eventsIn, losesBy, endsStretch, happenAll, endsWith, countOf}
 
 -- ---- words
 -- a loss is told with this restart position

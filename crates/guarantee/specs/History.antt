@@ -1,9 +1,8 @@
 -- What happened, from the calls alone: no state of a receiver stands here. A history is that of the stretch that runs: since the new receiver, the
 -- last loss or the last accepted restart.
 use Prim.Native.Nat.{ℕ, zero, suc, _+_, _-_, _^_}
-use mathlib.Core.Bool.{Bool, true, false, not, _&&_, _||_}
+use mathlib.Core.Bool.{Bool, true, false, not, _&&_}
 use mathlib.Core.List.{List, [], _∷_, _++_}
-use mathlib.Core.Path.{_≡_}
 use lib.Dec.{eqb, leb, ltb}
 use lib.IntN.{ℤ}
 use lib.ListN.{length}
@@ -24,7 +23,6 @@ use Rattle.eq.specs.declared.TapsFrom.{TapsFrom}
 use Rattle.eq.specs.declared.TapsFrom.the-variants.{Frame}
 use Rattle.receiver_slot.specs.declared.Points.{Points}
 use Rattle.receiver.specs.declared.Kept.{Kept}
-use Rattle.receiver.specs.Started.{newKept}
 use Rattle.receiver.specs.Symbol.{Input}
 use Rattle.receiver.specs.Answers.{loadedPoints}
 use Rattle.guarantee.specs.Calls.{Accumulators, SlotStore, Call}

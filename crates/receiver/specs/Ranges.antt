@@ -1,5 +1,5 @@
 -- The ranges of docs/RANGES.md, "Receiver": what receiver calls can leave in each number of a receiver.
-use Prim.Native.Nat.{ℕ, zero, suc, _+_, _-_, _*_, _^_}
+use Prim.Native.Nat.{ℕ, zero, _+_, _-_, _^_}
 use mathlib.Core.Bool.{Bool, true, _&&_, _||_}
 use mathlib.Core.List.{List, [], _∷_}
 use lib.Dec.{eqb, leb}
@@ -8,7 +8,6 @@ use lib.Signed.{leZ}
 use Rattle.laws.specs.Choice.{if_then_else_}
 use Rattle.carrier.specs.Ranges.{ncoInRange}
 use Rattle.sync_corr.specs.declared.Corr.{Corr}
-use Rattle.sync_corr.specs.declared.Both.{Both}
 use Rattle.sync_lock.specs.declared.Tally.{Tally}
 use Rattle.sync_lock.specs.Ranges.{lockInRange}
 use Rattle.sync_heads.specs.declared.Reading.{Reading}

@@ -7,7 +7,6 @@ use lib.IntN.{ℤ}
 use Rattle.laws.specs.Choice.{if_then_else_}
 use Rattle.angles.specs.declared.Symbol.{Symbol}
 use Rattle.sync_step.specs.declared.Step.{Step}
-use Rattle.sync_step.specs.declared.Events.{Events}
 use Rattle.sync_step.specs.Step.{placeOf}
 use Rattle.sync.specs.declared.SlotSync.{SlotSync}
 use Rattle.sync.specs.Sync.{windowAfter, storedOf, keptWindow, symbolOf}

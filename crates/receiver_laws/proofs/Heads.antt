@@ -13,7 +13,7 @@ use Rattle.sync_step.specs.declared.Event.the-variants.{Nothing, Head as Told, 
 use Rattle.sync_step.specs.declared.Events.{Events}
 use borrow.Author.Tests.{ne-eqb}
 use lib.Dec.{eqb}
-use mathlib.Core.Path.{_∙_, _≡_, ap, refl, sym}
+use mathlib.Core.Path.{_∙_, _≡_, ap, refl}
 use native.Mathlib.Omega.{arith}
 
 -- a head has come: its slot has begun, and the first head told which slot of the phase p before is due

@@ -1,19 +1,15 @@
 -- A symbol's call does not see what its slot store holds beyond the held slot's symbols. Assumes nothing.
 use Prim.Native.Nat.{ℕ, zero, suc, _+_, _<_, _≤_}
-use Rattle.angles.specs.declared.Symbol.{Symbol}
 use Rattle.laws.proofs.Tests.{by-test, if-ap}
 use Rattle.laws.specs.Choice.{if-no, if-yes, if_then_else_}
 use Rattle.laws.specs.Ranges.{firsts}
-use Rattle.phase.specs.declared.Corrected.{Corrected}
 use Rattle.phase.specs.declared.Due.{Due}
 use Rattle.phase.specs.declared.Due.the-variants.{Nothing as NoSlot, Slot}
 use Rattle.phase.specs.declared.SlotPhase.{SlotPhase}
-use Rattle.phase.specs.declared.SlotPhase.the-variants.{Idle, Holds}
 use Rattle.phase.specs.Phase.{begunOf, correctedOf, dueIn, pushedIn, storedIn}
 use Rattle.phase_range.proofs.Theorems.{agree-pushed, corrected-alike, length-stored}
 use Rattle.phase_range.specs.Calls.{AgreeOn}
 use Rattle.receiver.specs.declared.Answer.{Answer}
-use Rattle.receiver.specs.declared.Listened.{Listened}
 use Rattle.receiver.specs.declared.Receiver.{Receiver}
 use Rattle.receiver_slot.specs.Slot.{correctedAll, dueSymbols}
 use Rattle.receiver.specs.Started.{keptOf, started}
@@ -25,9 +21,7 @@ use Rattle.sync_heads.specs.declared.Head.{Head}
 use Rattle.sync_step.specs.Events.{noEvents}
 use lib.Dec.{eqb, lit≤}
 use lib.IntN.{ℤ}
-use lib.ListN.{length}
-use mathlib.Core.Bool.{Bool, false, true}
-use mathlib.Core.List.{List, [], _∷_, _++_}
+use mathlib.Core.List.{List}
 use mathlib.Core.Path.{_∙_, _≡_, ap, ap₂, refl, sym}
 use native.Mathlib.Nat.{not-suc-le-zero}
 use native.Mathlib.Omega.{arith}
