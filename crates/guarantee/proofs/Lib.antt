@@ -19,3 +19,4 @@ pub mod Quiet
 pub mod Locks
 pub mod Softs
 pub mod Theorems
+pub mod Feeds
