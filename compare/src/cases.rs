@@ -6,4 +6,5 @@ pub mod frame;
 pub mod fx;
 pub mod inputs;
 pub mod phase;
+pub mod stage;
 pub mod sync;

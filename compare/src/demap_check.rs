@@ -2,20 +2,14 @@
 //! all numbers of all answers, while the Rust goes beside it.
 
 use crate::port;
-use crate::replay::{self, Owes};
-use cases::demap::calls::{Call, Numbers};
-use cases::demap::kinds::{Kind, KINDS};
-use cases::demap::player::{Owed, Player, Totals};
+use crate::stage_check::Stage;
+use cases::demap::calls::Call;
+use cases::demap::kinds::KINDS;
+use cases::demap::player::{Player, Totals};
 use cases::demap::soft::{self, Demap, Rotated, Turner};
 use cases::fx::Answer;
 use cases::inputs::{self, Random, Size};
 use std::fmt::Debug;
-
-impl Owes<24> for Owed {
-    fn told(&self) -> &Numbers {
-        &self.told
-    }
-}
 
 #[derive(Default)]
 struct Tally {
@@ -90,36 +84,19 @@ fn rotations(calls: u64, random: &mut Random) {
     tally.print("rotate");
 }
 
-type Difference = replay::Difference<Owed, 24>;
-
-fn report(kind: &Kind, seed: u64, d: &Difference) -> ! {
-    println!("DIFFERENCE in {}: seed {seed}, call {}", kind.name, d.owed.place);
-    match Call::of_numbers(&d.owed.call) {
-        Some(call) => println!("  {call:?}"),
-        None => println!("  {:?}", d.owed.call),
-    }
-    println!("  expected {:?}", d.owed.told.map(|n| n as i64));
-    match &d.given {
-        Some(told) => println!("  the port {:?}", told.map(|n| n as i64)),
-        None => println!("  the port ended"),
-    }
-    std::process::exit(1)
-}
-
 fn learning(size: Size, seed: u64) {
-    let program = replay::program("DEMAP_REPLAY", "demap_replay");
-    let mut all = Totals::default();
-    for (k, kind) in (1..).zip(&KINDS) {
-        let seed = seed.wrapping_add(k);
-        let totals = replay::play(&program, |sink| {
+    let all: Totals = Stage {
+        variable: "DEMAP_REPLAY",
+        program: "demap_replay",
+        call: |n| Call::of_numbers(n).map(|c| format!("{c:?}")),
+        kinds: KINDS.iter().map(|k| k.name).collect(),
+        play: &|k, seed, sink| {
             let mut player = Player::new(seed, sink);
-            (kind.play)(&mut player, &mut Random(seed), size);
+            (KINDS[k].play)(&mut player, &mut Random(seed), size);
             player.end()
-        });
-        let totals = totals.unwrap_or_else(|d| report(kind, seed, &d));
-        println!("{:22} {totals}", kind.name);
-        all += totals;
+        },
     }
+    .compare(seed);
     println!("{:22} {all}: no difference", "all of learning");
 }
 

@@ -9,6 +9,7 @@ mod fx_check;
 mod phase_check;
 mod port;
 mod replay;
+mod stage_check;
 mod sync_check;
 
 use cases::inputs::Size;

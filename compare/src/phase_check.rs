@@ -1,48 +1,25 @@
 //! Makes calls of carrier and slot phase to the replay program and compares all numbers of all answers, while the Rust goes
 //! beside it.
 
-use crate::replay::{self, Owes};
+use crate::stage_check::Stage;
 use cases::inputs::{Random, Size};
-use cases::phase::calls::{Call, Numbers};
-use cases::phase::kinds::{Kind, KINDS};
-use cases::phase::player::{Owed, Player, Totals};
-
-impl Owes<24> for Owed {
-    fn told(&self) -> &Numbers {
-        &self.told
-    }
-}
-
-type Difference = replay::Difference<Owed, 24>;
-
-fn report(kind: &Kind, seed: u64, d: &Difference) -> ! {
-    println!("DIFFERENCE in {}: seed {seed}, call {}", kind.name, d.owed.place);
-    match Call::of_numbers(&d.owed.call) {
-        Some(call) => println!("  {call:?}"),
-        None => println!("  {:?}", d.owed.call),
-    }
-    println!("  expected {:?}", d.owed.told.map(|n| n as i64));
-    match &d.given {
-        Some(told) => println!("  the port {:?}", told.map(|n| n as i64)),
-        None => println!("  the port ended"),
-    }
-    std::process::exit(1)
-}
+use cases::phase::calls::Call;
+use cases::phase::kinds::KINDS;
+use cases::phase::player::{Player, Totals};
 
 pub fn compare(size: Size, seed: u64) {
     println!("comparing with the Rust's Nco in chain/sync.rs and its chain/phase.rs, seed {seed}");
-    let program = replay::program("PHASE_REPLAY", "phase_replay");
-    let mut all = Totals::default();
-    for (k, kind) in (1..).zip(&KINDS) {
-        let seed = seed.wrapping_add(k);
-        let totals = replay::play(&program, |sink| {
+    let all: Totals = Stage {
+        variable: "PHASE_REPLAY",
+        program: "phase_replay",
+        call: |n| Call::of_numbers(n).map(|c| format!("{c:?}")),
+        kinds: KINDS.iter().map(|k| k.name).collect(),
+        play: &|k, seed, sink| {
             let mut player = Player::new(seed, sink);
-            (kind.play)(&mut player, &mut Random(seed), size);
+            (KINDS[k].play)(&mut player, &mut Random(seed), size);
             player.end()
-        });
-        let totals = totals.unwrap_or_else(|d| report(kind, seed, &d));
-        println!("{:22} {totals}", kind.name);
-        all += totals;
+        },
     }
+    .compare(seed);
     println!("{:22} {all}: no difference", "all of phase");
 }

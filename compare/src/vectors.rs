@@ -15,6 +15,7 @@ use cases::fx::{Answer, Function, Kind, FUNCTIONS};
 use cases::inputs::{self, Pair, Random, Size};
 use cases::phase::kinds::KINDS;
 use cases::phase::player as phase;
+use cases::stage::{self, Sink};
 use cases::sync::player::{Owed, Player, Telling};
 use cases::sync::streams;
 
@@ -85,56 +86,47 @@ fn sync_files() -> Files {
     [("stdin", stdin), ("stdout", stdout)]
 }
 
-fn phase_files() -> Files {
+/// The calls that `play` makes, and what they owe.
+fn stage_files(play: impl for<'a> FnOnce(&'a mut Sink<'a>)) -> Files {
     let (mut stdin, mut stdout) = (Vec::new(), Vec::new());
-    let mut sink = |calls: Vec<u8>, owed: Vec<phase::Owed>| {
+    let mut sink = |calls: Vec<u8>, owed: Vec<stage::Owed>| {
         stdin.extend(calls);
         stdout.extend(owed.iter().flat_map(|o| o.told).flat_map(u64::to_le_bytes));
     };
-    let mut player = phase::Player::sparse(SEED, 11, &mut sink);
-    let mut random = Random(SEED);
-    KINDS.iter().for_each(|kind| (kind.play)(&mut player, &mut random, Size::Sample));
-    player.end();
+    play(&mut sink);
     [("stdin", stdin), ("stdout", stdout)]
+}
+
+fn phase_files() -> Files {
+    stage_files(|sink| {
+        let (mut player, mut random) = (phase::Player::sparse(SEED, 11, sink), Random(SEED));
+        KINDS.iter().for_each(|kind| (kind.play)(&mut player, &mut random, Size::Sample));
+        player.end();
+    })
 }
 
 fn demap_files() -> Files {
-    let (mut stdin, mut stdout) = (Vec::new(), Vec::new());
-    let mut sink = |calls: Vec<u8>, owed: Vec<demap::Owed>| {
-        stdin.extend(calls);
-        stdout.extend(owed.iter().flat_map(|o| o.told).flat_map(u64::to_le_bytes));
-    };
-    let mut player = demap::Player::sparse(SEED, &mut sink);
-    let mut random = Random(SEED);
-    DEMAP_KINDS.iter().for_each(|kind| (kind.play)(&mut player, &mut random, Size::Sample));
-    player.end();
-    [("stdin", stdin), ("stdout", stdout)]
+    stage_files(|sink| {
+        let (mut player, mut random) = (demap::Player::sparse(SEED, sink), Random(SEED));
+        DEMAP_KINDS.iter().for_each(|kind| (kind.play)(&mut player, &mut random, Size::Sample));
+        player.end();
+    })
 }
 
 fn eq_files() -> Files {
-    let (mut stdin, mut stdout) = (Vec::new(), Vec::new());
-    let mut sink = |calls: Vec<u8>, owed: Vec<eq::Owed>| {
-        stdin.extend(calls);
-        stdout.extend(owed.iter().flat_map(|o| o.told).flat_map(u64::to_le_bytes));
-    };
-    let mut player = eq::Player::sparse(SEED, 61, &mut sink);
-    let mut random = Random(SEED);
-    EQ_KINDS.iter().for_each(|kind| (kind.play)(&mut player, &mut random, Size::Sample));
-    player.end();
-    [("stdin", stdin), ("stdout", stdout)]
+    stage_files(|sink| {
+        let (mut player, mut random) = (eq::Player::sparse(SEED, 61, sink), Random(SEED));
+        EQ_KINDS.iter().for_each(|kind| (kind.play)(&mut player, &mut random, Size::Sample));
+        player.end();
+    })
 }
 
 fn frame_files() -> Files {
-    let (mut stdin, mut stdout) = (Vec::new(), Vec::new());
-    let mut sink = |calls: Vec<u8>, owed: Vec<frame::Owed>| {
-        stdin.extend(calls);
-        stdout.extend(owed.iter().flat_map(|o| o.told).flat_map(u64::to_le_bytes));
-    };
-    let mut player = frame::Player::new(SEED, &mut sink);
-    let mut random = Random(SEED);
-    FRAME_KINDS.iter().for_each(|kind| (kind.play)(&mut player, &mut random, Size::Sample));
-    player.end();
-    [("stdin", stdin), ("stdout", stdout)]
+    stage_files(|sink| {
+        let (mut player, mut random) = (frame::Player::new(SEED, sink), Random(SEED));
+        FRAME_KINDS.iter().for_each(|kind| (kind.play)(&mut player, &mut random, Size::Sample));
+        player.end();
+    })
 }
 
 fn fx_files() -> Files {

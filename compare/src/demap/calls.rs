@@ -3,7 +3,7 @@
 use super::model::{Force, Learn};
 use crate::inputs::Random;
 
-pub type Numbers = [u64; 24];
+pub use crate::stage::Numbers;
 
 /// One more than a call takes, of each slice.
 pub const SLICE: usize = 125;

@@ -6,20 +6,11 @@ use super::desk::{digest, lent, Desk};
 use super::model::{labels, numbers, Force, LABELS, NUMBERS, RULES};
 use super::soft::pairs;
 use crate::inputs::Random;
+use crate::stage::{Owed, Sink};
 use isdbs3_core::params::CodeRate;
 use isdbs3_core::slots::Slot;
 use isdbs3_phy::chain::demap::{self as rust, MODULATIONS};
 use std::fmt::Debug;
-
-/// An owed answer, with its call and that call's number.
-pub struct Owed {
-    pub told: Numbers,
-    pub call: Numbers,
-    pub place: u64,
-}
-
-/// Where calls and owed answers go.
-pub type Sink<'a> = dyn FnMut(Vec<u8>, Vec<Owed>) + 'a;
 
 const BLOCK: usize = 1 << 16;
 

@@ -3,7 +3,7 @@
 
 use crate::inputs::Random;
 
-pub type Numbers = [u64; 24];
+pub use crate::stage::Numbers;
 
 /// Eleven pairs, real part before imaginary part.
 pub type Pairs = [i16; 22];

@@ -6,18 +6,9 @@ use super::calls::{Call, Equaliser, Numbers, Pairs, Sums};
 use super::desk::{Answer, Desk, Said};
 use super::model::{no_sums, RULES};
 use crate::inputs::Random;
+use crate::stage::{Owed, Sink};
 use isdbs3_phy::chain::eq as rust;
 use std::fmt::Debug;
-
-/// An owed answer, with its call and that call's number.
-pub struct Owed {
-    pub told: Numbers,
-    pub call: Numbers,
-    pub place: u64,
-}
-
-/// Where calls and owed answers go.
-pub type Sink<'a> = dyn FnMut(Vec<u8>, Vec<Owed>) + 'a;
 
 const BLOCK: usize = 1 << 16;
 

@@ -10,6 +10,7 @@ use crate::eq::player::{agree, pairs, rust_sums};
 use crate::inputs::Random;
 use crate::phase::calls::{Corrected, Numbers};
 use crate::phase::player::rust_word;
+use crate::stage::{Owed, Sink};
 use isdb_frontend::s3sync::choose_words;
 use isdbs3_core::params::{CodeRate, Modulation, SLOTS};
 use isdbs3_core::slots::{choose_layout, Slot};
@@ -20,16 +21,6 @@ use isdbs3_phy::chain::ldpc::FixedLdpc;
 use isdbs3_phy::chain::phase as rust_phase;
 use isdbs3_phy::chain::sync::SyncStats;
 use isdbs3_phy::chain::EQ_APPLY_FRAMES;
-
-/// An owed answer, with its call and that call's number.
-pub struct Owed {
-    pub told: Numbers,
-    pub call: Numbers,
-    pub place: u64,
-}
-
-/// Where calls and owed answers go.
-pub type Sink<'a> = dyn FnMut(Vec<u8>, Vec<Owed>) + 'a;
 
 const BLOCK: usize = 1 << 16;
 

@@ -3,7 +3,7 @@
 
 use crate::inputs::Random;
 
-pub type Numbers = [u64; 24];
+pub use crate::stage::Numbers;
 
 /// Entries that the program has: one more than a call takes, so that too many can be lent.
 pub const TABLE: usize = 1_025;

@@ -5,20 +5,11 @@ use super::calls::{Answer, Call, Corrected, Head, Held, Nco, Numbers, Phase, Who
 use super::desk::Desk;
 use super::model::{looked_up, RULES, SLOT};
 use crate::inputs::Random;
+use crate::stage::{Owed, Sink};
 use isdb_frontend::tables::choose_table;
 use isdbs3_phy::chain::phase as rust_phase;
 use isdbs3_phy::chain::sync as rust_sync;
 use std::fmt::Debug;
-
-/// An owed answer, with its call and that call's number.
-pub struct Owed {
-    pub told: Numbers,
-    pub call: Numbers,
-    pub place: u64,
-}
-
-/// Where calls and owed answers go.
-pub type Sink<'a> = dyn FnMut(Vec<u8>, Vec<Owed>) + 'a;
 
 const BLOCK: usize = 1 << 16;
 
