@@ -4,7 +4,7 @@
 use cases::demap::calls::Call;
 use cases::demap::desk::Desk;
 use cases::demap::model::{Rules, RULES};
-use std::io::{stdin, stdout, BufReader, BufWriter, Read, Write};
+use cases::stage::{serve, slipped};
 
 /// Each slip: its name (slip.sh reads it), and what it does to the rules.
 const SLIPS: [(&str, fn(&mut Rules)); 23] = [
@@ -33,24 +33,7 @@ const SLIPS: [(&str, fn(&mut Rules)); 23] = [
     ("last_bit_first_in_a_block", |r| r.first_bit_first = false),
 ];
 
-fn rules() -> Rules {
-    let mut rules = RULES;
-    if let Ok(name) = std::env::var("SLIP") {
-        if let Some((_, alter)) = SLIPS.iter().find(|s| s.0 == name) {
-            alter(&mut rules);
-        }
-    }
-    rules
-}
-
 fn main() -> std::io::Result<()> {
-    let mut desk = Desk::new(rules());
-    let (mut calls, mut answers) = (BufReader::new(stdin()), BufWriter::new(stdout()));
-    let mut bytes = [0; 192];
-    while calls.read_exact(&mut bytes).is_ok() {
-        let number = |k: usize| u64::from_le_bytes(std::array::from_fn(|j| bytes[8 * k + j]));
-        let answer = desk.answer(Call::of_numbers(&std::array::from_fn(number)));
-        answer.iter().try_for_each(|n| answers.write_all(&n.to_le_bytes()))?;
-    }
-    answers.flush()
+    let mut desk = Desk::new(slipped(RULES, &SLIPS));
+    serve(|n| desk.answer(Call::of_numbers(n)))
 }

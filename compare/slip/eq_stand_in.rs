@@ -4,7 +4,7 @@
 use cases::eq::calls::Call;
 use cases::eq::desk::Desk;
 use cases::eq::model::{Rules, RULES};
-use std::io::{stdin, stdout, BufReader, BufWriter, Read, Write};
+use cases::stage::{serve, slipped};
 
 /// Each slip: its name (slip.sh reads it), and what it does to the rules.
 const SLIPS: [(&str, fn(&mut Rules)); 26] = [
@@ -36,23 +36,7 @@ const SLIPS: [(&str, fn(&mut Rules)); 26] = [
     ("taps_saturate_to_32767", |r| r.lowest_tap = -32_767.0),
 ];
 
-fn rules() -> Rules {
-    let mut rules = RULES;
-    if let Ok(name) = std::env::var("SLIP") {
-        let (_, alter) = SLIPS.iter().find(|s| s.0 == name).unwrap_or_else(|| panic!("no slip of the name {name}"));
-        alter(&mut rules);
-    }
-    rules
-}
-
 fn main() -> std::io::Result<()> {
-    let mut desk = Desk::new(rules());
-    let (mut calls, mut answers) = (BufReader::new(stdin()), BufWriter::new(stdout()));
-    let mut bytes = [0; 192];
-    while calls.read_exact(&mut bytes).is_ok() {
-        let number = |k: usize| u64::from_le_bytes(std::array::from_fn(|j| bytes[8 * k + j]));
-        let answer = desk.answer(Call::of_numbers(&std::array::from_fn(number)));
-        answer.numbers.iter().try_for_each(|n| answers.write_all(&n.to_le_bytes()))?;
-    }
-    answers.flush()
+    let mut desk = Desk::new(slipped(RULES, &SLIPS));
+    serve(|n| desk.answer(Call::of_numbers(n)).numbers)
 }

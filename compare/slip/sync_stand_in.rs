@@ -1,6 +1,7 @@
 //! A replay program made of the model, with one slip planted by name (environment variable SLIP): shows that the
 //! comparison finds it. Without SLIP the stand-in is right.
 
+use cases::stage::slipped;
 use cases::sync::calls::Call;
 use cases::sync::desk::Desk;
 use cases::sync::model::{Rules, RULES};
@@ -28,17 +29,8 @@ const SLIPS: [(&str, fn(&mut Rules)); 18] = [
     ("counters_wrap", |r| r.counter_top = u32::MAX - 1),
 ];
 
-fn rules() -> Rules {
-    let mut rules = RULES;
-    if let Ok(name) = std::env::var("SLIP") {
-        let (_, alter) = SLIPS.iter().find(|s| s.0 == name).unwrap_or_else(|| panic!("no slip of the name {name}"));
-        alter(&mut rules);
-    }
-    rules
-}
-
 fn main() -> std::io::Result<()> {
-    let mut desk = Desk::alone(rules());
+    let mut desk = Desk::alone(slipped(RULES, &SLIPS));
     let (mut calls, mut answers) = (BufReader::new(stdin()), BufWriter::new(stdout()));
     let mut bytes = [0; 8];
     while calls.read_exact(&mut bytes).is_ok() {
