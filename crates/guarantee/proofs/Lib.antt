@@ -17,6 +17,7 @@ pub mod Causes
 pub mod Losses
 pub mod Quiet
 pub mod Locks
+pub mod Outs
 pub mod Softs
 pub mod Theorems
 pub mod Feeds

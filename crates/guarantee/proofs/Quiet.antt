@@ -16,7 +16,8 @@ use Rattle.receiver.specs.declared.Answer.{Answer}
 use Rattle.receiver.specs.declared.Receiver.{Receiver}
 use Rattle.receiver.specs.Answers.{noRuns, symbolAnswer, symbolLent, symbolRefusal}
 use Rattle.receiver_slot.specs.Slot.{alignedAll, runOf, runsOf, softAll, waitingBefore, writtenOn}
-use Rattle.receiver.specs.Symbol.{Input, Lent, aligned, lentAfter, runs, slot, softAfter, synced}
+use Rattle.phase.specs.declared.Due.the-variants.{Nothing as NoSlot}
+use Rattle.receiver.specs.Symbol.{Input, Lent, heads, aligned, lentAfter, runs, slot, softAfter, synced}
 use Rattle.receiver_range.proofs.Symbols.{none-due}
 use Rattle.sync_history.proofs.Theorems.{no-lock-before}
 use Rattle.sync_history.specs.History.{LockBy}
@@ -50,7 +51,7 @@ module _ (s : System) (x : Input) (a : Accumulators) (b : SlotStore) (soft : Lis
   abbrev r : Receiver
   r = s .receiver
 
-  refused-none : eqb (symbolRefusal r x l) 0 ≡ false → NoSoft (symbol x a b soft) (toldBy s (symbol x a b soft))
+  pub refused-none : eqb (symbolRefusal r x l) 0 ≡ false → NoSoft (symbol x a b soft) (toldBy s (symbol x a b soft))
   unfolding toldBy symbolAnswer symbolLent if_then_else_ lentTo
   refused-none e = record { runs = rw e; soft = rw e }
 
@@ -75,19 +76,22 @@ module _ (s : System) (h : History) (t : Tied s h) (x : Input) (soft : List ℤ)
   abbrev l₀ : Lent
   l₀ = record { acc = s .acc; store = s .store; soft = soft }
 
-  quiet-none : symbolRefusal (s .receiver) x l₀ ≡ 0 → anyHead (synced 9296 (s .receiver) x l₀ .events) ≡ false → NoSoft (symbol x own own soft) (toldBy s (symbol x own own soft))
+  pub no-slot-none : symbolRefusal (s .receiver) x l₀ ≡ 0 → heads 9296 (s .receiver) x l₀ .due ≡ NoSlot → NoSoft (symbol x own own soft) (toldBy s (symbol x own own soft))
   unfolding toldBy lentTo handedAcc handedStore lentAfter
-  quiet-none z e =
-      let d = none-due (s .receiver) x l₀ (t .coherent) (none-heads (s .receiver) x l₀ (t .coherent) e .1) in
+  no-slot-none z e =
+      let d = none-due (s .receiver) x l₀ (t .coherent) e in
       record {
         runs = ap (λ (y : Answer). y .runs) (answer-is s h t x soft f z) ∙ no-runs (s .receiver) x l₀ (d .0);
         soft = ap (λ (y : Lent). y .soft) (lent-is s h t x soft f z) ∙ no-soft (s .receiver) x l₀ (d .0);
       }
 
+  pub quiet-none : symbolRefusal (s .receiver) x l₀ ≡ 0 → anyHead (synced 9296 (s .receiver) x l₀ .events) ≡ false → NoSoft (symbol x own own soft) (toldBy s (symbol x own own soft))
+  quiet-none z e = no-slot-none z (none-heads (s .receiver) x l₀ (t .coherent) e .1)
+
 pub one-not : _≡_ {A = ℕ} 1 0 → ⊥
 one-not e = omega arith
 
-no-head : anyHead noEvents ≡ false
+pub no-head : anyHead noEvents ≡ false
 unfolding anyHead isHead noEvents
 no-head = refl
 

@@ -142,12 +142,12 @@ module _ (r : Receiver) (x : Input) (l : Lent) (c : CoherentReceiver r) where
   begun-held e = left-held ∙ ap isHeld (some-heads e .phase)
 
   -- the first of the stretch: no slot was held
-  first-due : anyHead es ≡ true → isHeld (r .front .phase) ≡ false → heads 9296 r x l .due ≡ NoSlot
+  pub first-due : anyHead es ≡ true → isHeld (r .front .phase) ≡ false → heads 9296 r x l .due ≡ NoSlot
   unfolding dueIn
   first-due e i = let b = some-heads e in b .due ∙ ap (λ (p : SlotPhase). dueIn 9296 p (b .first)) (idle-is (r .front .phase) i)
 
   -- a later one: the slot held is whole
-  later-due : anyHead es ≡ true → lockedAt (r .front .sync .run .lock) ((r .front .sync .run .t - 23) % 9296) ≡ true → isHeld (r .front .phase) ≡ true →
+  pub later-due : anyHead es ≡ true → lockedAt (r .front .sync .run .lock) ((r .front .sync .run .t - 23) % 9296) ≡ true → isHeld (r .front .phase) ≡ true →
       (w : WholeSlot) × (heads 9296 r x l .due ≡ Slot w)
   unfolding dueIn
   later-due e k i =

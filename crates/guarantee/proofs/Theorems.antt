@@ -3,6 +3,7 @@ use Prim.Native.Nat.{ℕ}
 use Rattle.guarantee.proofs.Lists.{calls-tied, fit-before, new-tied}
 use Rattle.guarantee.proofs.Locks.{lock-now-told, relocks}
 use Rattle.guarantee.proofs.Losses.{answers, losses}
+use Rattle.guarantee.proofs.Outs.{slots-told}
 use Rattle.guarantee.proofs.Quiet.{before-lock, none-refused}
 use Rattle.guarantee.proofs.Softs as Bits
 use Rattle.guarantee.proofs.Tied.{Tied}
@@ -27,6 +28,7 @@ call-claims s h t c f rest =
       losses = losses s h t c f rest;
       before-lock = before-lock s h t c f rest;
       lock = lock-now-told s h t c f rest;
+      slots = slots-told s h t c f rest;
       relocks = relocks s h t c f rest;
       soft-bits = Bits.soft-bits s h t c f rest;
       refused = none-refused s h t c f;

@@ -27,7 +27,7 @@ use Rattle.receiver.specs.Answers.{noRuns, newAnswer, newAcc}
 use Rattle.receiver_laws.specs.Softs.{BitTrue, SoftTrue}
 use Rattle.guarantee.specs.Calls.{Accumulators, SlotStore, Call, System, Told, CallsFit, begins, lentTo, afterCall, afterCalls, toldBy, toldAll}
 use Rattle.guarantee.specs.Calls.{symbol, points, taps, opens, ends, restarts}
-use Rattle.guarantee.specs.History.{History, beginsWith, nextIn, withSymbol, keptIn, keptOver, refusalIn, eventsIn, losesBy, endsStretch, happenAll, endsWith, countOf}
+use Rattle.guarantee.specs.History.{History, beginsWith, nextIn, withSymbol, keptIn, keptOver, refusalIn, eventsIn, losesBy, endsStretch, happenAll, toldTo, endsWith, countOf}
 
 -- ---- words
 -- a loss is told with this restart position
@@ -142,11 +142,22 @@ module _ (h : History) (s : System) (c : Call) (t : Told) (rest : List Call) whe
     pub fit : length (softAll (h .points) (aligned 9296 (s .receiver) x l)) ≤ 44880
     pub are-true : (i : ℕ) → i < length (softAll (h .points) (aligned 9296 (s .receiver) x l)) → SoftTrue (h .points) (aligned 9296 (s .receiver) x l) i
 
+  -- "A corrected slot is aligned .. five symbols late": a head after another one of its stretch completes a slot; all of it but its last five come out in that
+  -- call, behind the five of the slot before. Nothing comes out otherwise
+  abbrev heads-before : ℕ
+  heads-before = toldTo (h .base) (h .last) (h .pushes) (length (h .pushes))
+
+  pub record SlotTold : Type 0 where
+    pub given : anyHead (t .events) ≡ true → 1 ≤ heads-before → (t .runs .tail .count ≡ (if eqb heads-before 1 then 0 else 5)) × (t .runs .body .count ≡ 9291)
+    pub no-head : anyHead (t .events) ≡ false → NoSoft c t
+    pub first-head : heads-before ≡ 0 → NoSoft c t
+
   pub record CallClaims : Type 0 where
     pub answers : Answers
     pub losses : Losses
     pub before-lock : BeforeLock
     pub lock : LockTold
+    pub slots : SlotTold
     pub relocks : (place P Q : ℕ) → Premise 9296 place P Q (sizeAt ps) (length ps - 23) → Relocks place
     -- a refused symbol writes none
     pub soft-bits : (x : Input) (a : Accumulators) (b : SlotStore) (soft : List ℤ) → c ≡ symbol x a b soft → refusalIn h c ≡ 0 → SoftBits x (lentTo s a b soft)
