@@ -5,8 +5,8 @@ use borrow.Author.Tests.{le-leb, leb-false, leb-true, lt-leb}
 use lib.Dec.{leb}
 use mathlib.Core.Path.{_∙_, sym}
 use native.Mathlib.Omega.{arith}
-use Rattle.sync.proofs.stores.past_end.Statement.{statement}
-use Rattle.sync.proofs.stores.past_end.Tie as tie
+use Rattle.sync.proofs.ranged.past_end.Statement.{statement}
+use Rattle.sync.proofs.ranged.past_end.Tie as tie
 
 sub-result : tie.Need-sub-result
 sub-result c = search needs

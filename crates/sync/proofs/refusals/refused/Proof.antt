@@ -1,8 +1,8 @@
 use Rattle.sync_step.specs.Events.{noCorr, noEvents}
 use Rattle.sync.specs.Answers.{refusedPush}
 use mathlib.Core.Path.{refl}
-use Rattle.sync.proofs.stores.refused.Statement.{statement}
-use Rattle.sync.proofs.stores.refused.Tie as tie
+use Rattle.sync.proofs.refusals.refused.Statement.{statement}
+use Rattle.sync.proofs.refusals.refused.Tie as tie
 
 returns : tie.Need-returns
 unfolding refusedPush noCorr noEvents

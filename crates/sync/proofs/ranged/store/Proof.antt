@@ -1,8 +1,8 @@
 use Rattle.laws.specs.Choice.{cases}
 use Rattle.sync.specs.Sync.{storedOf}
 use borrow.Author.Needs.{needs}
-use Rattle.sync.proofs.stores.store.Statement.{statement}
-use Rattle.sync.proofs.stores.store.Tie as tie
+use Rattle.sync.proofs.ranged.store.Statement.{statement}
+use Rattle.sync.proofs.ranged.store.Tie as tie
 
 enum-told : tie.Need-enum-told
 enum-told c = search needs

@@ -8,8 +8,8 @@ use lib.Seq.{drop-length}
 use mathlib.Core.List.{_++_, append-nil}
 use mathlib.Core.Path.{_∙_, _≡_, refl}
 use native.Mathlib.Omega.{arith}
-use Rattle.sync.proofs.stores.clear.Statement.{statement}
-use Rattle.sync.proofs.stores.clear.Tie as tie
+use Rattle.sync.proofs.ranged.clear.Statement.{statement}
+use Rattle.sync.proofs.ranged.clear.Tie as tie
 
 abbrev Inv-loop : tie.InvT-loop
 Inv-loop acc₀ i₀ acc i = (i ≤ length acc₀) × (length acc ≡ length acc₀) × (acc ≡ replicate i 0 ++ drop i acc₀)

@@ -4,8 +4,8 @@ use borrow.Author.Tests.{le-ltb, lt-ltb, ltb-false, ltb-true}
 use lib.Dec.{ltb}
 use mathlib.Core.Path.{_∙_, sym}
 use native.Mathlib.Omega.{arith}
-use Rattle.sync.proofs.stores.before.Statement.{statement}
-use Rattle.sync.proofs.stores.before.Tie as tie
+use Rattle.sync.proofs.ranged.before.Statement.{statement}
+use Rattle.sync.proofs.ranged.before.Tie as tie
 
 returns : tie.Need-returns
 returns c = sym (lt-ltb (c .before .args .at) (c .before .args .base + c .before .args .t) (omega arith))

@@ -1,4 +1,4 @@
--- `eq_train::ranges::upper_in_range` meets its contract. Assumes nothing.
+-- `eq_train::ranged::upper_in_range` meets its contract. Assumes nothing.
 use mathlib.Core.Path.{_≡_, refl, sym, _∙_}
 use mathlib.Core.Bool.{_&&_}
 use Prim.Native.Nat.{_*_, _-_, _≤_}
@@ -9,8 +9,8 @@ use Rattle.sums.specs.Sums.{upperAt}
 use Rattle.eq_train.specs.Ranges.{upperInRange}
 use Rattle.eq_train.proofs.Places.{first-place, row-in, row-after}
 use Rattle.eq_train.proofs.Tested.{upper-next, upper-end}
-use Rattle.eq_train.proofs.ranges.upper_in_range.Statement.{statement}
-use Rattle.eq_train.proofs.ranges.upper_in_range.Tie as tie
+use Rattle.eq_train.proofs.ranged.upper_in_range.Statement.{statement}
+use Rattle.eq_train.proofs.ranged.upper_in_range.Tie as tie
 
 abbrev Inv-loop : tie.InvT-loop
 Inv-loop s all₀ r₀ at₀ all r at = (r ≤ 11) × (at ≡ 2 * upperAt r r) × ((all && upperInRange s r (11 - r)) ≡ upperInRange s 0 11)

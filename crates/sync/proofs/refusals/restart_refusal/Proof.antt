@@ -1,8 +1,8 @@
 use Rattle.laws.specs.Choice.{cases}
 use Rattle.sync.specs.Answers.{restartRefusal}
 use borrow.Author.Needs.{needs}
-use Rattle.sync.proofs.stores.restart_refusal.Statement.{statement}
-use Rattle.sync.proofs.stores.restart_refusal.Tie as tie
+use Rattle.sync.proofs.refusals.restart_refusal.Statement.{statement}
+use Rattle.sync.proofs.refusals.restart_refusal.Tie as tie
 
 in-range-requires : tie.Need-in-range-requires
 in-range-requires c κs = search needs

@@ -1,8 +1,8 @@
 use Rattle.laws.specs.Choice.{cases}
 use Rattle.sync.specs.Sync.{keptWindow, noWindow}
 use borrow.Author.Needs.{needs}
-use Rattle.sync.proofs.stores.kept_window.Statement.{statement}
-use Rattle.sync.proofs.stores.kept_window.Tie as tie
+use Rattle.sync.proofs.ranged.kept_window.Statement.{statement}
+use Rattle.sync.proofs.ranged.kept_window.Tie as tie
 
 enum-told : tie.Need-enum-told
 enum-told c = search needs
