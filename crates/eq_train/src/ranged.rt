@@ -26,7 +26,7 @@ fn conj_product(ar: i16, ai: i16, br: i16, bi: i16) -> Parts
 
 // A function, since a parameter has a range and an element of a lent array has not.
 fn plus(a: i64, b: i64) -> i64
-    requires { ⌜ (natAbs a ≤ 2 ^ 53) × (natAbs b ≤ 2 ^ 31) ⌝ }
+    requires { ⌜ (natAbs a ≤ 2 ^ 54) × (natAbs b ≤ 2 ^ 31) ⌝ }
     ensures { λ v. ⌜ v ≡ a +ℤ b ⌝ }
 {
     a + b
