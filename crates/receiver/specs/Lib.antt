@@ -4,3 +4,4 @@ pub mod Heads
 pub mod Symbol
 pub mod Ranges
 pub mod Answers
+pub mod Parts
