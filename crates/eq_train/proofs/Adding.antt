@@ -162,11 +162,11 @@ unfolding addedFrom rightProducts
 right-done p line di dq k = refl
 
 -- a number that a product can be added to, or is one, as a local holds it
-pub held : (z : ℤ) → natAbs z ≤ 2 ^ 53 → toZ w64 (ofZ w64 z) ≡ z
+pub held : (z : ℤ) → natAbs z ≤ 2 ^ 54 → toZ w64 (ofZ w64 z) ≡ z
 held z h = toZ-ofZ (sfits-abs w64 z (omega (arith, h)))
 
 -- what `plus` gave, as a local holds it
-pub summed : (x a b : ℤ) → mag x < 2 ^ 63 → natAbs a ≤ 2 ^ 53 → natAbs b ≤ 2 ^ 31 → x ≡ toZ w64 (ofZ w64 a) +ℤ toZ w64 (ofZ w64 b) → toZ w64 (ofZ w64 x) ≡ a +ℤ b
+pub summed : (x a b : ℤ) → mag x < 2 ^ 63 → natAbs a ≤ 2 ^ 54 → natAbs b ≤ 2 ^ 31 → x ≡ toZ w64 (ofZ w64 a) +ℤ toZ w64 (ofZ w64 b) → toZ w64 (ofZ w64 x) ≡ a +ℤ b
 summed x a b h i j e = back w64 x h ∙ e ∙ ap₂ _+ℤ_ (held a i) (held b (omega (arith, j)))
 
 pub room-two : {s : List ℤ} {k n : ℕ} (x y : ℤ) → Room s k n → Room (set (set s k x) (k + 1) y) (k + 2) n

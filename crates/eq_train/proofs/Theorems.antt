@@ -30,7 +30,7 @@ unfolding sumsInRange
 in-range-ok s e h =
     let f = and-both (leb (s .count) 4194304 && upperInRange (s .r) 0 11) (rightInRange (s .p) 0 11) e in
     let g = and-both (leb (s .count) 4194304) (upperInRange (s .r) 0 11) (f .0) in
-    record { count = h; upper = upper-sizes (s .r) (g .1); right = right-sizes (s .p) (f .1) }
+    record { count = h; upper = λ k l. omega (arith, upper-sizes (s .r) (g .1) k l); right = λ k l. omega (arith, right-sizes (s .p) (f .1) k l) }
 
 -- ---- sound sums are in range
 sound-entry : (s : Sums) → SumsSound s → (r c : ℕ) → r ≤ c → c < 11 → entryInRange (s .r) r c ≡ true

@@ -41,8 +41,8 @@ rightInRange p r (suc n) = productInRange (nth p (2 * r)) (nth p (2 * r + 1)) &&
 unfoldable pub sumsInRange : Sums → Bool
 sumsInRange s = leb (s .count) 4194304 && upperInRange (s .r) 0 11 && rightInRange (s .p) 0 11
 
--- what a training needs: room for one more, and entries that a product can be added to
+-- what a training needs: room for one more, and entries that a product can be added to: those in range, also behind the trainings of a slot
 pub record SumsOk (s : Sums) : Type 0 where
   pub count : s .count < 4194304
-  pub upper : (k : ℕ) → k < 132 → natAbs (nth (s .r) k) ≤ 2 ^ 53
-  pub right : (k : ℕ) → k < 22 → natAbs (nth (s .p) k) ≤ 2 ^ 53
+  pub upper : (k : ℕ) → k < 132 → natAbs (nth (s .r) k) ≤ 2 ^ 54
+  pub right : (k : ℕ) → k < 22 → natAbs (nth (s .p) k) ≤ 2 ^ 54

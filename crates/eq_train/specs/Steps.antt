@@ -14,4 +14,4 @@ addedFrom s k (v ∷ vs) = addedFrom (set s k (nth s k +ℤ v)) (suc k) vs
 -- n numbers, and those from place k on are ones that a product can be added to
 pub record Room (s : List ℤ) (k n : ℕ) : Type 0 where
   pub long : length s ≡ n
-  pub small : (j : ℕ) → k ≤ j → j < n → natAbs (nth s j) ≤ 2 ^ 53
+  pub small : (j : ℕ) → k ≤ j → j < n → natAbs (nth s j) ≤ 2 ^ 54

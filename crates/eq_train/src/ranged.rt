@@ -7,7 +7,7 @@ ghost use Prim.Native.Nat.{_+_, _*_, _-_, _≤_, _<_, _^_};
 ghost use lib.IntN.{natAbs, _+ℤ_};
 ghost use lib.ListN.{length};
 ghost use Rattle.eq_train.specs.Train.{conjProduct, rowProducts, upperProducts, rightProducts, trainedSums};
-ghost use Rattle.eq_train.specs.Ranges.{sumsInRange, SumsOk};
+ghost use Rattle.eq_train.specs.Ranges.{sumsInRange, SumsOk, upperInRange};
 ghost use Rattle.eq_train.specs.Steps.{addedFrom, Room};
 
 // conj(a) times b.
@@ -26,7 +26,7 @@ fn conj_product(ar: i16, ai: i16, br: i16, bi: i16) -> Parts
 
 // A function, since a parameter has a range and an element of a lent array has not.
 fn plus(a: i64, b: i64) -> i64
-    requires { ⌜ (natAbs a ≤ 2 ^ 53) × (natAbs b ≤ 2 ^ 31) ⌝ }
+    requires { ⌜ (natAbs a ≤ 2 ^ 54) × (natAbs b ≤ 2 ^ 31) ⌝ }
     ensures { λ v. ⌜ v ≡ a +ℤ b ⌝ }
 {
     a + b
@@ -108,5 +108,20 @@ pub fn in_range(s: Sums) -> bool
 {
     let r = s.r;
     let p = s.p;
-    (s.count <= 4194304) & ranges::upper_in_range(&r) & ranges::right_in_range(&p)
+    (s.count <= 4194304) & upper_in_range(&r) & ranges::right_in_range(&p)
+}
+
+pub fn upper_in_range(s: &[i64; 132]) -> bool
+    ensures { λ v. ⌜ v ≡ upperInRange (now (s .entry)) 0 11 ⌝ }
+{
+    let mut all = true;
+    let mut r: usize = 0;
+    let mut at: usize = 0;
+    while r < 11 {
+        let one = ranges::row_in_range(s, r, at);
+        all = all & one;
+        at += 2 * (11 - r);
+        r += 1;
+    }
+    all
 }

@@ -2,7 +2,7 @@
 ghost use mathlib.Core.Path.{_≡_};
 ghost use Prim.Native.Nat.{_+_, _*_, _-_, _≤_, _<_};
 ghost use Rattle.sums.specs.Sums.{upperAt};
-ghost use Rattle.eq_train.specs.Ranges.{diagonalInRange, productInRange, rowInRange, upperInRange, rightInRange};
+ghost use Rattle.eq_train.specs.Ranges.{diagonalInRange, productInRange, rowInRange, rightInRange};
 
 fn diagonal_in_range(re: i64, im: i64) -> bool
     ensures { λ v. ⌜ v ≡ diagonalInRange re im ⌝ }
@@ -19,7 +19,7 @@ fn product_in_range(re: i64, im: i64) -> bool
 }
 
 // The entries of row r, the first of which stands from at on.
-fn row_in_range(s: &[i64; 132], r: usize, at: usize) -> bool
+pub(crate) fn row_in_range(s: &[i64; 132], r: usize, at: usize) -> bool
     requires { ⌜ (r < 11) × (at ≡ 2 * upperAt r r) × (at + 2 * (11 - r) ≤ 132) ⌝ }
     ensures { λ v. ⌜ v ≡ rowInRange (now (s .entry)) r r (11 - r) ⌝ }
 {
@@ -31,21 +31,6 @@ fn row_in_range(s: &[i64; 132], r: usize, at: usize) -> bool
         all = all & one;
         c += 1;
         k += 2;
-    }
-    all
-}
-
-pub(crate) fn upper_in_range(s: &[i64; 132]) -> bool
-    ensures { λ v. ⌜ v ≡ upperInRange (now (s .entry)) 0 11 ⌝ }
-{
-    let mut all = true;
-    let mut r: usize = 0;
-    let mut at: usize = 0;
-    while r < 11 {
-        let one = row_in_range(s, r, at);
-        all = all & one;
-        at += 2 * (11 - r);
-        r += 1;
     }
     all
 }

@@ -4,4 +4,5 @@ pub mod Heads
 pub mod Symbol
 pub mod Ranges
 pub mod Answers
+pub mod Parts
 pub mod Feed

@@ -1,4 +1,9 @@
 // The receiver: the stages wired as document 01, "The receiver", says. What each call means stands in specs/.
+mod loads;
+mod ranges;
+mod refusals;
+mod starts;
+
 use carrier::Nco;
 use eq::TapsFrom;
 use frame::Back;
@@ -10,6 +15,9 @@ use sums::Sums;
 use sync::SlotSync;
 use sync_heads::Record;
 use sync_step::Events;
+use sync_step::Step;
+ghost use mathlib.Core.Path.{_≡_};
+ghost use Rattle.receiver.specs.Answers.{newAnswer, newAcc, pointsAnswer, tapsAnswer, openAnswer, endAnswer, restartAnswer, restartAcc};
 
 // What a loss or a restart keeps.
 pub struct Kept {
@@ -42,6 +50,13 @@ pub struct Listened {
     pub due: Due,
 }
 
+// What a symbol comes to before anything is written: its window, the step of the slot sync, and what carrier and slot phase hear.
+pub struct Ahead {
+    pub win: [i16; 48],
+    pub step: Step,
+    pub heard: Listened,
+}
+
 // What a symbol answers.
 pub struct Answer {
     pub refusal: u8,
@@ -62,4 +77,110 @@ pub struct Ended {
     pub receiver: Receiver,
     pub ended: bool,
     pub sums: Sums,
+}
+
+// A receiver whose first symbol stands at a position, with a carrier step.
+pub fn new(at: u64, step: i32, acc: &mut [u32]) -> Answered
+    ensures { λ r. ⌜ (r ≡ newAnswer at step (now (acc .entry))) × (now (acc .exit) ≡ newAcc (now (acc .entry))) ⌝ }
+{
+    let r = starts::started(at, starts::new_kept(step));
+    if acc.len() == 9296 {
+        sync::ranged::clear(acc);
+        Answered {
+            refusal: 0,
+            receiver: r,
+        }
+    } else {
+        Answered {
+            refusal: 1,
+            receiver: r,
+        }
+    }
+}
+
+// 2^bits points as pairs, in the order of their labels, and the scale of the soft bits.
+pub fn load_points(r: Receiver, bits: u8, points: &[i16], k: i64) -> Answered
+    ensures { λ a. ⌜ a ≡ pointsAnswer r bits (now (points .entry)) k ⌝ }
+{
+    let n = refusals::load_points(r, bits, points.len(), k);
+    if n == 0 {
+        Answered {
+            refusal: 0,
+            receiver: loads::with_points(r, loads::loaded_points(bits, points, k)),
+        }
+    } else {
+        Answered {
+            refusal: n,
+            receiver: r,
+        }
+    }
+}
+
+// Taps that were solved from a frame's sums.
+pub fn load_taps(r: Receiver, taps: [i16; 22], frame: u32) -> Answered
+    ensures { λ a. ⌜ a ≡ tapsAnswer r taps frame ⌝ }
+{
+    let e = r.back.eq;
+    loads::eq_answer(r, eq::ranged::loaded(e, taps, frame))
+}
+
+// The receiver started anew at a position, not before the next symbol's, with its kept values.
+pub fn restart(r: Receiver, at: u64, acc: &mut [u32]) -> Answered
+    ensures { λ a. ⌜ (a ≡ restartAnswer r at (now (acc .entry))) × (now (acc .exit) ≡ restartAcc r at (now (acc .entry))) ⌝ }
+{
+    let n = refusals::restart(r, at, acc.len());
+    if n == 0 {
+        sync::ranged::clear(acc);
+        Answered {
+            refusal: 0,
+            receiver: starts::started(at, starts::kept_of(r)),
+        }
+    } else {
+        Answered {
+            refusal: n,
+            receiver: r,
+        }
+    }
+}
+
+// Sums of a frame, from nothing; open ones are dropped.
+pub fn open_sums(r: Receiver, frame: u32) -> Answered
+    ensures { λ a. ⌜ a ≡ openAnswer r frame ⌝ }
+{
+    let e = r.back.eq;
+    loads::eq_answer(r, eq::ranged::with_sums(e, true, sums::new(frame)))
+}
+
+// The open sums, which are then closed.
+pub fn end_sums(r: Receiver) -> Ended
+    ensures { λ a. ⌜ a ≡ endAnswer r ⌝ }
+{
+    let none = sums::new(0);
+    if ranges::receiver_within(r) {
+        let e = r.back.eq;
+        let opened = e.opened;
+        let s = e.sums;
+        if opened {
+            Ended {
+                refusal: 0,
+                receiver: loads::with_eq(r, eq::ranged::with_sums(e, false, none)),
+                ended: true,
+                sums: s,
+            }
+        } else {
+            Ended {
+                refusal: 0,
+                receiver: r,
+                ended: false,
+                sums: none,
+            }
+        }
+    } else {
+        Ended {
+            refusal: 6,
+            receiver: r,
+            ended: false,
+            sums: none,
+        }
+    }
 }

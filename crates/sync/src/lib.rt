@@ -1,7 +1,7 @@
 // The slot sync, after `SlotSync` of chain/sync.rs. The state goes in by value and comes back; the 9,296 accumulators are lent, and so are the
 // two words, as 24 pairs each, I before Q.
 pub mod ranged;
-mod stores;
+mod refusals;
 
 use sync_heads::Record;
 use sync_step::Events;
@@ -34,7 +34,7 @@ pub fn new(at: u64, acc: &mut [u32]) -> Started
 {
     let s = ranged::started(at, Record::Never);
     if acc.len() == 9296 {
-        stores::clear(acc);
+        ranged::clear(acc);
         Started {
             refusal: 0,
             sync: s,
@@ -56,7 +56,7 @@ pub fn push(s: SlotSync, i: i16, q: i16, f: [i8; 48], w: [i8; 48], acc: &mut [u3
     if n == 0 {
         ranged::accepted(s, i, q, &f, &w, acc)
     } else {
-        stores::refused(n, s)
+        refusals::refused(n, s)
     }
 }
 
@@ -65,9 +65,9 @@ pub fn restart(s: SlotSync, at: u64, acc: &mut [u32]) -> Started
     ensures { λ r. ⌜ (r ≡ restartAnswer s at (now (acc .entry))) × (now (acc .exit) ≡ restartAcc s at (now (acc .entry))) ⌝ }
 {
     let r = s.run;
-    let n = stores::restart_refusal(acc.len(), at, r);
+    let n = refusals::restart_refusal(acc.len(), at, r);
     if n == 0 {
-        stores::clear(acc);
+        ranged::clear(acc);
         let c = r.course;
         let f = c.last;
         Started {

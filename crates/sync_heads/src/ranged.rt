@@ -242,7 +242,7 @@ pub fn stage_in_range(k: Stage) -> bool
     }
 }
 
-fn slot_in_range(s: Slot) -> bool
+pub fn slot_in_range(s: Slot) -> bool
     ensures { λ r. ⌜ r ≡ slotInRange s ⌝ }
 {
     match s {

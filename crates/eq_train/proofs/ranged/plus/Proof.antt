@@ -5,10 +5,10 @@ use Rattle.eq_train.proofs.ranged.plus.Statement.{statement}
 use Rattle.eq_train.proofs.ranged.plus.Tie as tie
 
 add-result : tie.Need-add-result
-add-result c = fits w64 (plus (arg-le 9007199254740992 (c .fits .a) (c .pre .0)) (arg-le 2147483648 (c .fits .b) (c .pre .1))) tt
+add-result c = fits w64 (plus (arg-le 18014398509481984 (c .fits .a) (c .pre .0)) (arg-le 2147483648 (c .fits .b) (c .pre .1))) tt
 
 returns : tie.Need-returns
-returns c = at w64 (plus (arg-le 9007199254740992 (c .fits .a) (c .pre .0)) (arg-le 2147483648 (c .fits .b) (c .pre .1))) tt .is
+returns c = at w64 (plus (arg-le 18014398509481984 (c .fits .a) (c .pre .0)) (arg-le 2147483648 (c .fits .b) (c .pre .1))) tt .is
 
 pub plus-spec : {M : Type 1} → statement M
 plus-spec = tie.close (tie.spec add-result returns)

@@ -1,0 +1,12 @@
+-- `receiver::ranges::points_within` meets its contract. Assumes nothing.
+use Rattle.receiver.specs.Ranges.{pointsWithin}
+use mathlib.Core.Path.{refl}
+use Rattle.receiver.proofs.ranges.points_within.Statement.{statement}
+use Rattle.receiver.proofs.ranges.points_within.Tie as tie
+
+returns : tie.Need-returns
+unfolding pointsWithin
+returns c = refl
+
+pub points-within-spec : {M : Type 1} → statement M
+points-within-spec = tie.close (tie.spec returns)

@@ -1,0 +1,146 @@
+-- What the functions between the entries and the definitions give, and what they need.
+use Prim.Native.Nat.{ℕ, _+_, _^_, _<_}
+use mathlib.Core.Bool.{Bool, true, false, _&&_}
+use mathlib.Core.List.{List}
+use mathlib.Core.Path.{_≡_}
+use lib.Dec.{eqb, leb}
+use lib.IntN.{ℤ, pos}
+use lib.ListN.{length}
+use Rattle.laws.specs.Choice.{if_then_else_}
+use Rattle.sync_corr.specs.Correlate.{bothOf, onesOf}
+use Rattle.sync_heads.specs.declared.Head.{Head as Told}
+use Rattle.sync_heads.specs.declared.Word.{Word}
+use Rattle.sync_heads.specs.declared.Word.the-variants.{Ssync, Fsync, NotFsync}
+use Rattle.sync_step.specs.declared.Event.{Event}
+use Rattle.sync_step.specs.declared.Event.the-variants.{Nothing, Head, Period, Lost}
+use Rattle.sync_step.specs.declared.Events.{Events}
+use Rattle.sync_step.specs.declared.Run.{Run}
+use Rattle.sync_step.specs.Events.{noEvents}
+use Rattle.sync_step.specs.Ranges.{RunOk}
+use Rattle.sync_step.specs.Step.{stepOf}
+use Rattle.sync.specs.Sync.{windowAfter, keptWindow}
+use Rattle.carrier.specs.declared.Nco.{Nco}
+use Rattle.carrier.specs.Carrier.{rotatedOf, advancedNco}
+use Rattle.carrier.specs.Ranges.{NcoOk}
+use Rattle.phase.specs.declared.SlotPhase.{SlotPhase}
+use Rattle.phase.specs.declared.Due.the-variants.{Nothing as NoSlot}
+use Rattle.phase.specs.Phase.{pushedIn, storedIn, symbolAt}
+use Rattle.phase.specs.Ranges.{HeadOk, PhaseOk}
+use Rattle.frame.specs.declared.Back.{Back}
+use Rattle.receiver_slot.specs.declared.Points.{Points}
+use Rattle.receiver_slot.specs.declared.Runs.{Runs}
+use Rattle.receiver.specs.declared.Receiver.{Receiver}
+use Rattle.receiver.specs.declared.Listened.{Listened}
+use Rattle.receiver.specs.declared.Ahead.{Ahead}
+use Rattle.receiver.specs.declared.Answer.{Answer}
+use Rattle.receiver.specs.Started.{started, keptOf}
+use Rattle.receiver.specs.Heads.{listened, losesIn}
+use Rattle.receiver.specs.Symbol.{Input, nextOf}
+use Rattle.receiver.specs.Ranges.{receiverInRange}
+use Rattle.receiver.specs.Answers.{noRuns}
+
+-- ---- why a symbol is refused, as far as that is known without its slot
+unfoldable pub stateRefusal : Receiver → ℕ
+stateRefusal r = if receiverInRange r then if leb (2 ^ 62) (nextOf r) then 7 else 0 else 6
+
+unfoldable pub soonRefusal : Receiver → ℕ → ℕ → ℕ → List ℤ → List ℤ → ℕ → ℕ
+soonRefusal r acc store soft f s table =
+    if eqb acc 9296 && eqb store 18592 && leb 44880 soft
+    then if onesOf f && onesOf s
+    then if eqb table 1024
+    then stateRefusal r
+    else 3
+    else 2
+    else 1
+
+unfoldable pub refusedBy : ℕ → Receiver → Answer
+refusedBy n r = record { refusal = n; receiver = r; events = noEvents; runs = noRuns }
+
+-- ---- heads: an F head leaves the carrier as it is, so that only an Ssync head needs its range
+abbrev pub TuneOk : Nco → Word → Type 0
+TuneOk n Ssync = NcoOk n
+TuneOk n Fsync = Unit {0}
+TuneOk n NotFsync = Unit {0}
+
+pub record HeadHeard (l : Listened) (h : Told) : Type 0 where
+  pub head : HeadOk h
+  pub phase : PhaseOk (l .phase)
+  pub nco : TuneOk (l .nco) (h .word)
+
+abbrev pub HearOk : Listened → Event → Type 0
+HearOk l Nothing = Unit {0}
+HearOk l (Head h) = HeadHeard l h
+HearOk l (Period p) = Unit {0}
+HearOk l (Lost at) = Unit {0}
+
+abbrev pub Quiet : Word → Type 0
+Quiet Ssync = ⊥
+Quiet Fsync = Unit {0}
+Quiet NotFsync = Unit {0}
+
+abbrev pub EventOk : Event → Type 0
+EventOk Nothing = Unit {0}
+EventOk (Head h) = HeadOk h
+EventOk (Period p) = Unit {0}
+EventOk (Lost at) = Unit {0}
+
+abbrev pub LaterOk : Event → Type 0
+LaterOk Nothing = Unit {0}
+LaterOk (Head h) = (HeadOk h) × (Quiet (h .word))
+LaterOk (Period p) = Unit {0}
+LaterOk (Lost at) = Unit {0}
+
+-- a call has at most one Ssync head, and that is its first
+pub record EventsOk (es : Events) : Type 0 where
+  pub first : EventOk (es .first)
+  pub second : LaterOk (es .second)
+  pub third : LaterOk (es .third)
+
+-- ---- a symbol, looked at before anything is written; level is the accumulator of its position
+unfoldable pub windowBy : Receiver → Input → List ℤ
+windowBy r x = let z = rotatedOf (x .table) (r .front .nco .phase) (x .xi) (x .xq) in windowAfter (r .front .sync .win) (z .i) (z .q)
+
+unfoldable pub aheadBy : Receiver → Input → ℕ → Ahead
+aheadBy r x level =
+    let st = stepOf 9296 (r .front .sync .run) (bothOf (windowBy r x) (x .f) (x .s)) level in
+    record {
+      win = windowBy r x;
+      step = st;
+      heard = listened 9296 (record { nco = advancedNco (r .front .nco); phase = r .front .phase; due = NoSlot }) (st .events);
+    }
+
+pub record AheadOk (r : Receiver) (f s table : List ℤ) : Type 0 where
+  pub run : RunOk (r .front .sync .run)
+  pub nco : NcoOk (r .front .nco)
+  pub phase : PhaseOk (r .front .phase)
+  pub first : onesOf f ≡ true
+  pub second : onesOf s ≡ true
+  pub long : length table ≡ 1024
+
+-- ---- what it leaves, with this alignment
+unfoldable pub leftBy : Receiver → Ahead → Back → SlotPhase → Receiver
+leftBy r a b p =
+    record {
+      front = record { nco = a .heard .nco; sync = record { win = keptWindow (a .step .stores) (a .win); run = a .step .run }; phase = p };
+      back = b;
+      points = r .points;
+    }
+
+unfoldable pub phaseBy : ℕ → SlotPhase → SlotPhase
+phaseBy t p = if leb 23 t then pushedIn 9296 p else p
+
+unfoldable pub storedBy : ℕ → SlotPhase → ℤ → ℤ → List ℤ → List ℤ
+storedBy t p i q store = if leb 23 t then storedIn 9296 p i q store else store
+
+unfoldable pub afterBy : Receiver → Ahead → Back → Receiver
+afterBy r a b =
+    let left = leftBy r a b (phaseBy (r .front .sync .run .t) (a .heard .phase)) in
+    if losesIn (a .step .events) then started (nextOf r + 1) (keptOf left) else left
+
+unfoldable pub storeBy : Receiver → Ahead → List ℤ → List ℤ
+storeBy r a store =
+    let z = symbolAt (a .win) 0 in
+    if losesIn (a .step .events) then store else storedBy (r .front .sync .run .t) (a .heard .phase) (z .i) (z .q) store
+
+unfoldable pub takenBy : Receiver → Ahead → Back → Runs → Answer
+takenBy r a b runs = record { refusal = 0; receiver = afterBy r a b; events = a .step .events; runs = runs }
