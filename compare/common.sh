@@ -59,10 +59,9 @@ library() {
     rustc --edition "$edition" --crate-type rlib --crate-name "$name" -C opt-level=3 -L "$out" --out-dir "$out" "$@" "$file"
 }
 
-# originals OUT FLAG...: the crate isdbs3_phy of unchanged files, with shims in the places of what is missing, and
-# the cases that are made of it.
+# stages OUT FLAG...: the crate isdbs3_phy of unchanged files, with shims in the places of what is missing.
 # The module tree is one of links, since rustc looks for a module beside the link, not beside the file.
-originals() {
+stages() {
     local out=$1 shims=$here/shims tree=$1/tree source unused; shift
     source=$(cd "$sources" && pwd)
     rm -rf "$tree"
@@ -77,6 +76,12 @@ originals() {
     library 2021 "$out" isdb_frontend "$shims/isdb_frontend.rs" --extern isdbs3_core --extern num_complex "$@"
     library 2024 "$out" isdbs3_phy "$tree/phy/lib.rs" -A warnings \
         --extern isdbs3_core --extern isdb_frontend --extern num_complex "$@"
+}
+
+# originals OUT FLAG...: the stages, and the cases that are made of them.
+originals() {
+    stages "$@"
+    local out=$1
     library 2021 "$out" cases "$here/src/cases.rs" --extern isdbs3_phy --extern isdbs3_core --extern isdb_frontend
 }
 

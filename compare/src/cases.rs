@@ -6,5 +6,6 @@ pub mod frame;
 pub mod fx;
 pub mod inputs;
 pub mod phase;
+pub mod receiver;
 pub mod stage;
 pub mod sync;

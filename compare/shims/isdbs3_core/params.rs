@@ -10,14 +10,29 @@ pub const MAIN_RUN: usize = 136;
 pub const TMCC_RUN: usize = 4;
 pub const MAIN_PER_MOD_SLOT: usize = RUNS * MAIN_RUN;
 pub const TMCC_PER_MOD_SLOT: usize = RUNS * TMCC_RUN;
-pub const MOD_SLOT: usize = SYNC_SYMBOLS + PILOT_SYMBOLS + MAIN_PER_MOD_SLOT + TMCC_PER_MOD_SLOT;
+const WHOLE_SLOT: usize = SYNC_SYMBOLS + PILOT_SYMBOLS + MAIN_PER_MOD_SLOT + TMCC_PER_MOD_SLOT;
+/// The slot, or its first so many symbols if `SLOT_CUT` is set at the build: runs short enough to prove by computing.
+pub const MOD_SLOT: usize = match option_env!("SLOT_CUT") {
+    Some(digits) => number(digits.as_bytes()),
+    None => WHOLE_SLOT,
+};
 pub const SLOTS: usize = 120;
 
 pub const N_LDPC: usize = 44_880;
 pub const TMCC_SIGNAL_BITS: usize = SLOTS * TMCC_PER_MOD_SLOT;
 pub const TMCC_INFO_BITS: usize = 9_422;
 
-const _: () = assert!(MOD_SLOT == 9_296);
+const _: () = assert!(WHOLE_SLOT == 9_296);
+
+const fn number(digits: &[u8]) -> usize {
+    let (mut n, mut k) = (0, 0);
+    while k < digits.len() {
+        assert!(digits[k].is_ascii_digit());
+        n = 10 * n + (digits[k] - b'0') as usize;
+        k += 1;
+    }
+    n
+}
 
 #[derive(Debug, Clone, Copy, PartialEq, Eq, PartialOrd, Ord, Hash)]
 pub enum Modulation {

@@ -1,0 +1,3 @@
+//! The unchanged stages wired as document 01, "The receiver", says.
+
+pub mod wired;
