@@ -1,0 +1,3 @@
+-- Laws of a corrected slot.
+pub mod Aligned
+pub mod Softs
