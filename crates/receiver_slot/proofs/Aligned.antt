@@ -20,11 +20,12 @@ use Rattle.phase.specs.declared.Corrected.{Corrected}
 use Rattle.phase.specs.declared.WholeSlot.{WholeSlot}
 use Rattle.phase.specs.Phase.{correctedOf}
 use Rattle.receiver_slot.specs.declared.Points.{Points}
+use Rattle.receiver_slot.specs.declared.AlignedRun.{AlignedRun}
 use Rattle.receiver_slot.specs.Slot.{alignedAll, alignedBy, correctedAll, noRun, pointsFor, runOf, runsOf, waitingBefore}
-use borrow.Author.Tests.{eq-eqb, eqb-true}
+use borrow.Author.Tests.{eqb-false, eq-eqb, eqb-true}
 use lib.Dec.{eqb}
 use lib.IntN.{ℤ}
-use lib.ListN.{drop, length, length-append, take}
+use lib.ListN.{drop, length, length-append, length-take, take}
 use lib.Seq.{drop-at, take-append-add, take-append-le, take-append-seam, take-all, take-at}
 use mathlib.Core.Bool.{false, true}
 use mathlib.Core.List.{List, [], _∷_, _++_}
@@ -233,10 +234,20 @@ module _ (p : Points) (given : List AlignedSymbol) (ws ms : List Meta) (n : ℕ)
 
 -- those that waited, by the oldest
 tail-told : (p : Points) (w : Metas) → w .count ≤ 5 → tailOf p w ≡ runBy p (waitingOf w)
-unfolding tailOf runBy waitingOf noRun pointsFor
+unfolding tailOf
 tail-told p w h =
-    by-test (eqb (w .count) 0) (λ t. rw (eqb-true (w .count) 0 t))
-    (λ t. ?)
+    let m : AlignedRun = record { at = w .first .at; j = w .first .j; count = w .count; bits = p .bits } in
+    by-test (eqb (w .count) 0) (λ t. if-yes (eqb (w .count) 0) noRun m t ∙ sym (by-none (eqb-true (w .count) 0 t)))
+    (λ t. if-no (eqb (w .count) 0) noRun m t ∙ sym (by-some (eqb-false (w .count) 0 t) (w .count) refl h))
+  where
+    by-none : w .count ≡ 0 → runBy p (waitingOf w) ≡ noRun
+    by-none e = unfold runBy waitingOf in rw e
+
+    by-some : (w .count ≡ 0 → ⊥) → (n : ℕ) → w .count ≡ n → w .count ≤ 5 → runBy p (waitingOf w) ≡ record { at = w .first .at; j = w .first .j; count = w .count; bits = p .bits }
+    by-some h zero e l = absurd (h e)
+    by-some h (suc n) e l =
+        unfold runBy waitingOf pointsFor in
+        rw e (ap (λ (k : ℕ). record { at = w .first .at; j = w .first .j; count = suc k; bits = p .bits }) (omega (arith, length-take n (w .second ∷ w .third ∷ w .fourth ∷ w .fifth ∷ []), e, l)))
 
 -- those that waited, and the slot's own
 module _ (p : Points) (b : Back) (w : WholeSlot) (table store f s : List ℤ) (h : b .metas .count ≤ 5) where
@@ -265,4 +276,4 @@ module _ (p : Points) (b : Back) (w : WholeSlot) (table store f s : List ℤ) (h
 
   pub runs-from : runsOf p (waitingBefore b cs) (alignedAll b cs f s) ≡ runsFrom p b (w .head .at)
   unfolding runsFrom
-  runs-from = rw (tail-told (joinedTo b (w .head .at) .metas) (joined-few b (w .head .at) h), ← tail-is, ← (first-is 9290), ← body-is)
+  runs-from = rw (tail-told p (joinedTo b (w .head .at) .metas) (joined-few b (w .head .at) h), ← tail-is, ← (first-is 9290), ← body-is)

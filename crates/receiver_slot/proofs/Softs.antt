@@ -27,6 +27,7 @@ use lib.ListN.{length, length-append}
 use mathlib.Core.List.{List, [], _∷_, _++_}
 use mathlib.Core.Path.{_≡_, ap, refl}
 use native.Mathlib.Omega.{arith}
+use Rattle.receiver_slot.specs.Steps.{softTo}
 use Rattle.receiver_slot.specs.Aligned.{Between, comesOut, metasIn}
 use Rattle.receiver_slot.specs.Aligned.Between.{five, none}
 use Rattle.receiver_slot.proofs.Aligned.{aligned-are}
@@ -141,3 +142,7 @@ softs-fit p b w table store f s h k =
   where
     place : (w : WholeSlot) (table store : List ℤ) (j : ℕ) → metaOf (correctedOf w table store j) .j ≡ j
     place w table store j = unfold metaOf correctedOf in refl
+
+pub soft-fits : (p : Points) (b : Back) (w : WholeSlot) (table store f s : List ℤ) → p .bits ≤ 5 → Between (b .metas) → length (softTo 9296 p b w table store f s) ≤ 44880
+unfolding softTo
+soft-fits p b w table store f s h k = softs-fit p b w table store f s h k

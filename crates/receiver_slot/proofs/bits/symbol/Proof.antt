@@ -1,66 +1,78 @@
+-- `receiver_slot::bits::symbol` meets its contract: only a main symbol has soft bits. Assumes nothing.
+use mathlib.Core.Path.{sym, _∙_}
+use native.Mathlib.Omega.{arith}
+use lib.IntN.{pos}
+use Rattle.demap.specs.Demap.{labelMetric}
+use Rattle.demap.proofs.Blocks.{length-bits}
+use Rattle.receiver_slot.specs.Slot.{softOf}
+use Rattle.receiver_slot.proofs.Steps.{put-none}
 use borrow.Author.Needs.{needs}
 use Rattle.receiver_slot.proofs.bits.symbol.Statement.{statement}
 use Rattle.receiver_slot.proofs.bits.symbol.Tie as tie
-use Rattle.receiver_slot.proofs.bits.symbol.Reads as reads
-use Rattle.receiver_slot.proofs.bits.symbol.Lts as lts
-use Rattle.frame_map.proofs.part.Reads as part-reads
-use Rattle.receiver_slot.proofs.bits.main_symbol.Reads as main-symbol-reads
 
--- src/bits.rt:47:27
 cast-part : tie.Need-cast-part
 cast-part c = search needs
 
--- src/bits.rt:47:11
 part-requires : tie.Need-part-requires
 part-requires c κs = search needs
 
--- src/bits.rt:48:30
 enum-told : tie.Need-enum-told
 enum-told c = search needs
 
--- src/bits.rt:49:31
 enum-told-2 : tie.Need-enum-told-2
 enum-told-2 c = search needs
 
--- src/bits.rt:50:51
 enum-told-3 : tie.Need-enum-told-3
 enum-told-3 c = search needs
 
--- src/bits.rt:50:30
 main-symbol-requires : tie.Need-main-symbol-requires
-main-symbol-requires c κs = search needs
+unfolding softOf
+main-symbol-requires c κs =
+    let S = c .before .before .before .before .before .before .before in
+    let a = S .args in
+    let l = length-bits (labelMetric (a .a .z .i) (a .a .z .q) (a .p .points)) (a .p .bits) (pos (a .p .k)) in
+    let h = rw (sym (c .before .before .before .part .ensures) ∙ c .before .enum-told3 .given .1) at (S .pre .1) in
+    (S .pre .0, omega (arith, h, l))
 
--- src/bits.rt:51:30
 enum-told-4 : tie.Need-enum-told-4
 enum-told-4 c = search needs
 
--- src/bits.rt:52:33
 enum-told-5 : tie.Need-enum-told-5
 enum-told-5 c = search needs
 
--- src/bits.rt:41:1
 returns : tie.Need-returns
-returns c = search needs
+unfolding softOf
+returns c =
+    let a = c .before .before .before .before .before .before .args in
+    rw (sym (c .before .before .part .ensures) ∙ c .enum-told .given .1) (omega arith, sym (put-none (a .o) (a .soft .now)))
 
--- src/bits.rt:41:1
 returns-2 : tie.Need-returns-2
-returns-2 c = search needs
+unfolding softOf
+returns-2 c =
+    let a = c .before .before .before .before .before .before .args in
+    rw (sym (c .before .before .part .ensures) ∙ c .enum-told2 .given .1) (omega arith, sym (put-none (a .o) (a .soft .now)))
 
--- src/bits.rt:41:1
 same-length : tie.Need-same-length
 same-length c = search needs
 
--- src/bits.rt:41:1
 returns-3 : tie.Need-returns-3
-returns-3 c = search needs
+unfolding softOf
+returns-3 c =
+    let a = c .before .before .before .before .before .before .before .before .before .args in
+    let l = length-bits (labelMetric (a .a .z .i) (a .a .z .q) (a .p .points)) (a .p .bits) (pos (a .p .k)) in
+    rw (sym (c .before .before .before .before .before .part .ensures) ∙ c .before .before .before .enum-told3 .given .1, l) (c .before .main-symbol .ensures)
 
--- src/bits.rt:41:1
 returns-4 : tie.Need-returns-4
-returns-4 c = search needs
+unfolding softOf
+returns-4 c =
+    let a = c .before .before .before .before .before .before .args in
+    rw (sym (c .before .before .part .ensures) ∙ c .enum-told4 .given .1) (omega arith, sym (put-none (a .o) (a .soft .now)))
 
--- src/bits.rt:41:1
 returns-5 : tie.Need-returns-5
-returns-5 c = search needs
+unfolding softOf
+returns-5 c =
+    let a = c .before .before .before .before .before .before .args in
+    rw (sym (c .before .before .part .ensures) ∙ c .enum-told5 .given .1) (omega arith, sym (put-none (a .o) (a .soft .now)))
 
 pub symbol-spec : {M : Type 1} → statement M
 symbol-spec =
