@@ -23,20 +23,6 @@ use lib.ListN.{length}
 use mathlib.Core.List.{List, [], _∷_, _++_}
 use mathlib.Core.Path.{_≡_}
 
--- ---- which symbols
-unfoldable pub metasIn : List AlignedSymbol → List Meta
-metasIn [] = []
-metasIn (a ∷ rest) = a .meta ∷ metasIn rest
-
--- those that waited, unless a gap drops them, then the slot's first n
-unfoldable pub comesOut : ℕ → Back → WholeSlot → List ℤ → List ℤ → List Meta
-comesOut n b w table store = waitingOf (joinedTo b (w .head .at) .metas) ++ firsts (λ (j : ℕ). metaOf (correctedOf w table store j)) n
-
--- those that wait between slots: none, or the last five of a slot
-pub data Between (w : Metas) : Type 0 where
-  none : w .count ≡ 0 → Between w
-  five : w .count ≡ 5 → w .first .j ≡ 9291 → w .second .j ≡ 9292 → w .third .j ≡ 9293 → w .fourth .j ≡ 9294 → w .fifth .j ≡ 9295 → Between w
-
 -- ---- told as two runs
 pub record BeginsWith (p : Points) (m : Meta) (r : AlignedRun) : Type 0 where
   pub at-is : r .at ≡ m .at

@@ -1,5 +1,5 @@
 -- What a corrected slot gives: aligned symbols, trainings, soft bits.
-use Prim.Native.Nat.{ℕ, _^_, _+_}
+use Prim.Native.Nat.{ℕ}
 use mathlib.Core.Bool.{Bool, false, _||_}
 use mathlib.Core.List.{List, [], _∷_, _++_}
 use lib.IntN.{ℤ, pos}
@@ -22,7 +22,6 @@ use Rattle.frame.specs.declared.Aligned.{Aligned}
 use Rattle.frame.specs.declared.Aligned.the-variants.{Nothing, Given}
 use Rattle.frame.specs.Align.{joinedTo, pushedBack}
 use Rattle.frame.specs.Answers.{fullBack}
-use Rattle.frame.specs.Stretch.{afterAll}
 use Rattle.receiver_slot.specs.declared.Points.{Points}
 use Rattle.receiver_slot.specs.declared.AlignedRun.{AlignedRun}
 use Rattle.receiver_slot.specs.declared.Runs.{Runs}
