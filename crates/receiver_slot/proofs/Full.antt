@@ -197,10 +197,17 @@ begins at b (five e i j k l m) h g =
     at-start : (at : ℕ) → at + 0 ≡ at
     at-start at = omega arith
 
+on-empty : trainingsOn 0 ≡ 19
+unfolding trainingsOn if_then_else_
+on-empty = refl
+
+on-full : trainingsOn 11 ≡ 24
+unfolding trainingsOn if_then_else_
+on-full = refl
+
 from-line : (b : Back) → (b .eq .filled ≡ 0) ⊎ (b .eq .filled ≡ 11) → From (b .eq .filled) (29 - trainingsOn (b .eq .filled))
-unfolding trainingsOn
-from-line b (inl e) = inl (e, rw (e, if-no {A = ℕ} (eqb 0 11) 24 19 refl))
-from-line b (inr e) = inr (e, rw (e, if-yes {A = ℕ} (eqb 11 11) 24 19 refl))
+from-line b (inl e) = inl (e, omega (arith, ap trainingsOn e, on-empty))
+from-line b (inr e) = inr (e, omega (arith, ap trainingsOn e, on-full))
 
 few-trainings : (n : ℕ) → trainingsOn n ≤ 24
 unfolding trainingsOn if_then_else_
