@@ -6,16 +6,14 @@ use Rattle.eq.specs.declared.Equalised.the-variants.{Nothing as NoOutput, Given
 use Rattle.eq.specs.declared.Equaliser.{Equaliser}
 use Rattle.eq.specs.Eq.{outputAt, pushedEq, startedEq, trainedEq, trainsEq, withSums}
 use Rattle.eq_fir.specs.Fir.{lineAfter, noLine, outputOf}
-use Rattle.frame.proofs.Theorems.{aligned-theorem, gap-theorem, waiting-theorem}
 use Rattle.frame.specs.Align.{equalisedBy, joinedTo, pushedBack, restartedBack, startedBack, takenBy, trainedAt, trainedPart}
 use Rattle.frame.specs.declared.Aligned.{Aligned}
 use Rattle.frame.specs.declared.Aligned.the-variants.{Nothing, Given}
 use Rattle.frame.specs.declared.AlignedSymbol.{AlignedSymbol}
 use Rattle.frame.specs.declared.Back.{Back}
 use Rattle.frame.specs.declared.Pushed.{Pushed}
-use Rattle.frame.specs.Stretch.{afterAll, givenAll, givenBy, metasOf, unbroken}
+use Rattle.frame.specs.Stretch.{afterAll}
 use Rattle.frame_line.proofs.Theorems.{waiting-length}
-use Rattle.frame_line.specs.declared.LastAt.the-variants.{At}
 use Rattle.frame_line.specs.declared.Meta.{Meta}
 use Rattle.frame_line.specs.Line.{gapAt, joined, metaOf, moved, noMetas}
 use Rattle.frame_line.specs.Waiting.{waitingOf}
@@ -29,24 +27,22 @@ use Rattle.laws.specs.Ranges.{firsts}
 use Rattle.phase.specs.declared.Corrected.{Corrected}
 use Rattle.phase.specs.declared.WholeSlot.{WholeSlot}
 use Rattle.phase.specs.Phase.{correctedOf}
-use Rattle.receiver_slot.specs.declared.AlignedRun.{AlignedRun}
 use Rattle.receiver_slot.specs.declared.Points.{Points}
-use Rattle.receiver_slot.specs.Slot.{alignedAll, alignedBy, correctedAll, noRun, pointsFor, runOf, runsOf, tapsFor, waitingBefore}
-use Rattle.receiver_laws.specs.Aligned.{BeginsWith, EqualisedAt, Filled, RunsAre, comesOut, metasIn}
+use Rattle.receiver_slot.specs.Slot.{alignedAll, alignedBy, correctedAll, runsOf, tapsFor, waitingBefore}
+use Rattle.receiver_slot.specs.Aligned.{runBy}
+use Rattle.receiver_slot.proofs.Aligned.{body-is, firsts-cons, joined-few, run-count, tail-is}
+use Rattle.receiver_laws.specs.Aligned.{BeginsWith, EqualisedAt, Filled, RunsAre}
 use Rattle.receiver_laws.specs.Softs.{In}
 use Rattle.receiver_laws.specs.Softs.In.{here, there}
-use borrow.Author.Tests.{eq-eqb, lt-ltb, ltb-false, ltb-true}
+use borrow.Author.Tests.{lt-ltb, ltb-false, ltb-true}
 use lib.Dec.{ltb}
 use lib.IntN.{ℤ}
-use lib.ListN.{drop, length, length-append, length-take, take}
-use lib.Seq.{drop-at, take-append-add, take-append-le, take-append-seam, take-all, take-at}
+use lib.ListN.{length, length-take, take}
 use mathlib.Core.Bool.{Bool, false, true}
 use mathlib.Core.List.{List, [], _∷_, _++_}
 use mathlib.Core.Logic.{_⊎_, inl, inr, ⊎-elim}
-use mathlib.Core.Path.{_∙_, _≡_, ap, ap₂, refl, sym}
-use native.Mathlib.Nat.{eq-or-lt-of-le}
+use mathlib.Core.Path.{_∙_, _≡_, ap, refl, sym}
 use native.Mathlib.Omega.{arith}
-
 
 some-begin : (p : Points) (m : Meta) (ms : List Meta) (n : ℕ) → 0 < n → BeginsWith p m (runBy p (take n (m ∷ ms)))
 unfolding runBy
@@ -68,17 +64,12 @@ first-begins p g n = rw (firsts-cons g n) (record { at-is = refl; j-is = refl; b
 pub runs-are : (p : Points) (b : Back) (w : WholeSlot) (table store f s : List ℤ) → b .metas .count ≤ 5 →
     let cs = correctedAll 9296 w table store in
     RunsAre p b w table store (runsOf p (waitingBefore b cs) (alignedAll b cs f s))
-unfolding comesOut
 runs-are p b w table store f s h =
-    let cs = correctedAll 9296 w table store in
-    let given = alignedAll b cs f s in
     let from = joinedTo b (w .head .at) in
     let g : ℕ → Meta = λ (j : ℕ). metaOf (correctedOf w table store j) in
-    let e = aligned-are b w table store f s h in
     let l = waiting-length (from .metas) (joined-few b (w .head .at) h) in
-    let n = l ∙ sym (waiting-are b w table store) in
-    let t = tail-by p given (waitingOf (from .metas)) (firsts g 9291) (waitingBefore b cs) e n in
-    let d = body-by p given (waitingOf (from .metas)) (firsts g 9291) (waitingBefore b cs) e n in
+    let t = tail-is p b w table store f s h in
+    let d = body-is p b w table store f s h in
     let k = run-count p (waitingOf (from .metas)) ∙ l in
     let z = first-begins p g 9290 in
     record {

@@ -1,35 +1,22 @@
 -- What the soft bits of a call say: specs/Softs. Each statement stands above its proof. Assumes nothing.
-use Prim.Native.Nat.{ℕ, zero, suc, _+_, _-_, _*_, _/_, _%_, _≤_, _<_, min, zero-le}
-use Rattle.angles.specs.declared.Symbol.{Symbol}
+use Prim.Native.Nat.{ℕ, _+_, _-_, _≤_, _<_, zero-le}
 use Rattle.demap.proofs.Theorems.{Tells, bits-theorem, demap-theorem}
 use Rattle.demap.specs.Answers.{demapBuffer, demapRefusal}
 use Rattle.demap.specs.Demap.{labelMetric, softAt, softBits}
-use Rattle.frame.specs.Align.{joinedTo, restartedBack, startedBack}
 use Rattle.frame.specs.declared.AlignedSymbol.{AlignedSymbol}
-use Rattle.frame.specs.declared.Back.{Back}
-use Rattle.frame_line.specs.declared.Meta.{Meta}
-use Rattle.frame_line.specs.declared.Metas.{Metas}
-use Rattle.frame_line.specs.Line.{gapAt, metaOf, noMetas}
-use Rattle.frame_line.specs.Waiting.{waitingOf}
-use Rattle.frame_map.proofs.Laws.{main-run, part-behind, part-pilot, part-sync, tmcc-run}
 use Rattle.frame_map.specs.declared.SlotPart.{SlotPart}
 use Rattle.frame_map.specs.declared.SlotPart.the-variants.{Sync, Pilot, Main, Tmcc, Refused}
 use Rattle.frame_map.specs.Map.{partOf}
 use Rattle.laws.proofs.Linear.{le-ud}
 use Rattle.laws.proofs.Lists.{getD-firsts, length-firsts}
-use Rattle.laws.proofs.Tests.{by-test, if-both}
-use Rattle.laws.specs.Ranges.{firsts}
-use Rattle.phase.specs.declared.WholeSlot.{WholeSlot}
-use Rattle.phase.specs.Phase.{correctedOf}
+use Rattle.laws.proofs.Tests.{by-test}
 use Rattle.receiver_slot.specs.declared.Points.{Points}
-use Rattle.receiver_slot.specs.Slot.{alignedAll, correctedAll, pointsFor, softAll, softOf}
-use Rattle.receiver_laws.proofs.Aligned.{aligned-are}
-use Rattle.receiver_laws.specs.Aligned.{Between, comesOut, metasIn}
-use Rattle.receiver_laws.specs.Aligned.Between.{five, none}
+use Rattle.receiver_slot.specs.Slot.{pointsFor, softAll, softOf}
+use Rattle.receiver_slot.proofs.Softs as slot
 use Rattle.receiver_laws.specs.Softs.{BitTrue, FitClaim, SoftTrue}
 use Rattle.receiver_laws.specs.Softs.In.{here, there}
 use borrow.Author.Tests.{ltb-false, ltb-true}
-use lib.Dec.{lit≤, ltb}
+use lib.Dec.{ltb}
 use lib.IntN.{ℤ, pos}
 use lib.ListN.{getD, length, length-append}
 use lib.Seq.{getD-append-add}
@@ -105,3 +92,7 @@ softs-true p (a ∷ rest) i h =
     (λ t.
     let l = ltb-false i (length vs) t in
     further p a rest i vs refl l (softs-true p rest (i - length vs) (omega (arith, h, l, length-append vs (softAll p rest)))))
+
+-- ---- THE SOFT VALUES OF A SLOT fit the buffer: it has 8,976 main symbols, and of the five that wait the oldest is one
+pub softs-fit : FitClaim
+softs-fit = slot.softs-fit

@@ -1,5 +1,5 @@
 -- What a corrected slot comes out as: which symbols, with which taps, told as which runs.
-use Prim.Native.Nat.{ℕ, _≤_, _<_}
+use Prim.Native.Nat.{_≤_, _<_}
 use Rattle.eq_fir.specs.Fir.{lineAfter, outputOf}
 use Rattle.frame.specs.Align.{joinedTo, pushedBack}
 use Rattle.frame.specs.declared.Aligned.the-variants.{Given}
@@ -7,10 +7,7 @@ use Rattle.frame.specs.declared.AlignedSymbol.{AlignedSymbol}
 use Rattle.frame.specs.declared.Back.{Back}
 use Rattle.frame.specs.Stretch.{afterAll}
 use Rattle.frame_line.specs.declared.Meta.{Meta}
-use Rattle.frame_line.specs.declared.Metas.{Metas}
 use Rattle.frame_line.specs.Line.{metaOf}
-use Rattle.frame_line.specs.Waiting.{waitingOf}
-use Rattle.laws.specs.Ranges.{firsts}
 use Rattle.phase.specs.declared.Corrected.{Corrected}
 use Rattle.phase.specs.declared.WholeSlot.{WholeSlot}
 use Rattle.phase.specs.Phase.{correctedOf}
@@ -20,7 +17,7 @@ use Rattle.receiver_slot.specs.declared.Runs.{Runs}
 use Rattle.receiver_slot.specs.Slot.{pointsFor, tapsFor}
 use lib.IntN.{ℤ}
 use lib.ListN.{length}
-use mathlib.Core.List.{List, [], _∷_, _++_}
+use mathlib.Core.List.{List, _∷_, _++_}
 use mathlib.Core.Path.{_≡_}
 
 -- ---- told as two runs

@@ -103,7 +103,7 @@ pub joined-few : (b : Back) (at : ℕ) → b .metas .count ≤ 5 → joinedTo b 
 unfolding joinedTo restartedBack startedBack noMetas
 joined-few b at h = if-both (λ (x : Back). x .metas .count ≤ 5) (gapAt (b .last) at) (restartedBack b) b (omega arith) h
 
-joined-last : (b : Back) (at : ℕ) → gapAt (joinedTo b at .last) at ≡ false
+pub joined-last : (b : Back) (at : ℕ) → gapAt (joinedTo b at .last) at ≡ false
 unfolding joinedTo restartedBack startedBack
 joined-last b at = if-either (λ (x : Back). gapAt (x .last) at ≡ false) (gapAt (b .last) at) (restartedBack b) b (λ t. unfold gapAt in refl) (λ t. t)
 

@@ -5,3 +5,5 @@ pub mod Steps
 pub mod Sized
 pub mod Buffers
 pub mod Fits
+pub mod Filling
+pub mod Full

@@ -89,7 +89,11 @@ module _ (b : Back) (w : WholeSlot) (table store f s : List ℤ) where
   unfolding backAt pushedAt correctedAll firsts
   back-step n = after-snoc b (firsts (correctedOf w table store) n) (correctedOf w table store n) f s
 
-  over-step : (n : ℕ) → over (suc n) ≡ (over n || fullBack (joinedTo (backAt n b w table store f s) (correctedOf w table store n .at)))
+  pub over-none : over 0 ≡ false
+  unfolding correctedAll firsts overfull
+  over-none = refl
+
+  pub over-step : (n : ℕ) → over (suc n) ≡ (over n || fullBack (joinedTo (backAt n b w table store f s) (correctedOf w table store n .at)))
   unfolding backAt correctedAll firsts
   over-step n = over-snoc b (firsts (correctedOf w table store) n) (correctedOf w table store n) f s
 

@@ -3,3 +3,4 @@ pub mod Slot
 pub mod Aligned
 pub mod Ranges
 pub mod Steps
+pub mod Full

@@ -19,7 +19,8 @@ ghost use Rattle.frame.specs.Align.{pushedBack};
 ghost use Rattle.frame.specs.Ranges.{PushOk};
 ghost use Rattle.frame.specs.Stretch.{afterAll};
 ghost use Rattle.receiver_slot.specs.Slot.{correctedAll, alignedAll, softAll, writtenOn, waitingBefore, runsOf};
-ghost use Rattle.receiver_slot.specs.Ranges.{SlotOk};
+ghost use Rattle.receiver_slot.specs.Full.{trainingsOn, fullAt};
+ghost use Rattle.receiver_slot.specs.Ranges.{BackOk, SlotOk};
 ghost use Rattle.receiver_slot.specs.Steps.{backAt, softTo, tailOf, runsFrom};
 
 // Symbol j of a slot, corrected and aligned.
@@ -126,5 +127,32 @@ pub fn slot(
     Given {
         back: back,
         runs: r,
+    }
+}
+
+// The trainings of a slot on such a line.
+fn trainings(filled: u32) -> u32
+    ensures { λ r. ⌜ (r ≡ trainingsOn filled) × (r ≤ 24) ⌝ }
+{
+    if filled == 11 { 24 } else { 19 }
+}
+
+// Whether a slot at this position finds the sums full: then it is refused.
+pub fn full(b: Back, at: u64) -> bool
+    requires { ⌜ BackOk b ⌝ }
+    ensures { λ r. ⌜ r ≡ fullAt b at ⌝ }
+{
+    let e = b.eq;
+    let last = b.last;
+    let opened = e.opened;
+    if opened {
+        if frame_line::ranged::gap(last, at) {
+            false
+        } else {
+            let s = e.sums;
+            4194304 < s.count + trainings(e.filled)
+        }
+    } else {
+        false
     }
 }
