@@ -14,13 +14,13 @@ use Rattle.phase.specs.declared.Due.the-variants.{Nothing as NoSlot, Slot}
 use Rattle.phase.specs.declared.SlotPhase.{SlotPhase}
 use Rattle.phase.specs.declared.SlotPhase.the-variants.{Idle, Holds}
 use Rattle.receiver.specs.Answers.{symbolLent, symbolRefusal}
+use Rattle.receiver_slot.specs.Aligned.{Between}
+use Rattle.receiver_slot.specs.Aligned.Between.{five, none}
 use Rattle.receiver_slot.specs.Slot.{alignedAll, dueSymbols, softAll, writtenOn}
 use Rattle.receiver.specs.Symbol.{Input, Lent, aligned, heads, lentAfter, slot, softAfter}
 use Rattle.receiver_slot.specs.declared.Points.{Points}
 use Rattle.receiver.specs.declared.Receiver.{Receiver}
 use Rattle.receiver_laws.proofs.Softs.{bit-true, softs-fit, softs-true}
-use Rattle.receiver_laws.specs.Aligned.{Between}
-use Rattle.receiver_laws.specs.Aligned.Between.{five, none}
 use Rattle.receiver_range.specs.Coherent.{Adjoins, BackFits, Untouched}
 use lib.IntN.{ℤ}
 use lib.ListN.{length}

@@ -29,13 +29,14 @@ use Rattle.phase.specs.Ranges.{HeadOk, PhaseOk}
 use Rattle.frame.specs.declared.Back.{Back}
 use Rattle.receiver_slot.specs.declared.Points.{Points}
 use Rattle.receiver_slot.specs.declared.Runs.{Runs}
+use Rattle.receiver.specs.declared.Front.{Front}
 use Rattle.receiver.specs.declared.Receiver.{Receiver}
 use Rattle.receiver.specs.declared.Listened.{Listened}
 use Rattle.receiver.specs.declared.Ahead.{Ahead}
 use Rattle.receiver.specs.declared.Answer.{Answer}
 use Rattle.receiver.specs.Started.{started, keptOf}
 use Rattle.receiver.specs.Heads.{listened, losesIn}
-use Rattle.receiver.specs.Symbol.{Input, nextOf}
+use Rattle.receiver.specs.Symbol.{nextOf}
 use Rattle.receiver.specs.Ranges.{receiverInRange}
 use Rattle.receiver.specs.Answers.{noRuns}
 
@@ -97,14 +98,15 @@ pub record EventsOk (es : Events) : Type 0 where
   pub third : LaterOk (es .third)
 
 -- ---- a symbol, looked at before anything is written; level is the accumulator of its position
-unfoldable pub windowBy : Receiver → Input → List ℤ
-windowBy r x = let z = rotatedOf (x .table) (r .front .nco .phase) (x .xi) (x .xq) in windowAfter (r .front .sync .win) (z .i) (z .q)
+unfoldable pub windowBy : Front → ℤ → ℤ → List ℤ → List ℤ
+windowBy a xi xq table = let z = rotatedOf table (a .nco .phase) xi xq in windowAfter (a .sync .win) (z .i) (z .q)
 
-unfoldable pub aheadBy : Receiver → Input → ℕ → Ahead
-aheadBy r x level =
-    let st = stepOf 9296 (r .front .sync .run) (bothOf (windowBy r x) (x .f) (x .s)) level in
+unfoldable pub aheadBy : Receiver → ℤ → ℤ → List ℤ → List ℤ → List ℤ → ℕ → Ahead
+aheadBy r xi xq f s table level =
+    let w = windowBy (r .front) xi xq table in
+    let st = stepOf 9296 (r .front .sync .run) (bothOf w f s) level in
     record {
-      win = windowBy r x;
+      win = w;
       step = st;
       heard = listened 9296 (record { nco = advancedNco (r .front .nco); phase = r .front .phase; due = NoSlot }) (st .events);
     }

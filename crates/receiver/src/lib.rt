@@ -1,5 +1,8 @@
 // The receiver: the stages wired as document 01, "The receiver", says. What each call means stands in specs/.
+mod after;
+mod heads;
 mod loads;
+mod looks;
 mod ranges;
 mod refusals;
 mod starts;

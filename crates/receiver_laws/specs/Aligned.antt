@@ -1,5 +1,5 @@
 -- What a corrected slot comes out as: which symbols, with which taps, told as which runs.
-use Prim.Native.Nat.{ℕ, _≤_, _<_}
+use Prim.Native.Nat.{_≤_, _<_}
 use Rattle.eq_fir.specs.Fir.{lineAfter, outputOf}
 use Rattle.frame.specs.Align.{joinedTo, pushedBack}
 use Rattle.frame.specs.declared.Aligned.the-variants.{Given}
@@ -7,10 +7,7 @@ use Rattle.frame.specs.declared.AlignedSymbol.{AlignedSymbol}
 use Rattle.frame.specs.declared.Back.{Back}
 use Rattle.frame.specs.Stretch.{afterAll}
 use Rattle.frame_line.specs.declared.Meta.{Meta}
-use Rattle.frame_line.specs.declared.Metas.{Metas}
 use Rattle.frame_line.specs.Line.{metaOf}
-use Rattle.frame_line.specs.Waiting.{waitingOf}
-use Rattle.laws.specs.Ranges.{firsts}
 use Rattle.phase.specs.declared.Corrected.{Corrected}
 use Rattle.phase.specs.declared.WholeSlot.{WholeSlot}
 use Rattle.phase.specs.Phase.{correctedOf}
@@ -20,22 +17,8 @@ use Rattle.receiver_slot.specs.declared.Runs.{Runs}
 use Rattle.receiver_slot.specs.Slot.{pointsFor, tapsFor}
 use lib.IntN.{ℤ}
 use lib.ListN.{length}
-use mathlib.Core.List.{List, [], _∷_, _++_}
+use mathlib.Core.List.{List, _∷_, _++_}
 use mathlib.Core.Path.{_≡_}
-
--- ---- which symbols
-unfoldable pub metasIn : List AlignedSymbol → List Meta
-metasIn [] = []
-metasIn (a ∷ rest) = a .meta ∷ metasIn rest
-
--- those that waited, unless a gap drops them, then the slot's first n
-unfoldable pub comesOut : ℕ → Back → WholeSlot → List ℤ → List ℤ → List Meta
-comesOut n b w table store = waitingOf (joinedTo b (w .head .at) .metas) ++ firsts (λ (j : ℕ). metaOf (correctedOf w table store j)) n
-
--- those that wait between slots: none, or the last five of a slot
-pub data Between (w : Metas) : Type 0 where
-  none : w .count ≡ 0 → Between w
-  five : w .count ≡ 5 → w .first .j ≡ 9291 → w .second .j ≡ 9292 → w .third .j ≡ 9293 → w .fourth .j ≡ 9294 → w .fifth .j ≡ 9295 → Between w
 
 -- ---- told as two runs
 pub record BeginsWith (p : Points) (m : Meta) (r : AlignedRun) : Type 0 where

@@ -13,7 +13,7 @@ use Rattle.frame.specs.declared.Back.{Back}
 use Rattle.phase.specs.declared.WholeSlot.{WholeSlot}
 use Rattle.receiver_slot.specs.declared.Points.{Points}
 use Rattle.receiver_slot.specs.Slot.{alignedAll, correctedAll, pointsFor, softAll}
-use Rattle.receiver_laws.specs.Aligned.{Between}
+use Rattle.receiver_slot.specs.Aligned.{Between}
 
 -- ---- one soft bit: value v of the bit at place j, most significant first, of a symbol demapped with 2^bits points
 pub record BitTrue (bits : ℕ) (points : List ℤ) (yi yq : ℤ) (j : ℕ) (v : ℤ) : Type 0 where

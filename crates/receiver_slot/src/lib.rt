@@ -1,4 +1,9 @@
 // What a corrected slot gives: aligned symbols, trainings, soft bits. What it means stands in specs/.
+mod bits;
+pub mod ranged;
+
+use frame::Back;
+
 // The loaded constellation: 2^bits points as pairs in the order of their labels, zeros behind them. Before a load bits is 0.
 pub struct Points {
     pub bits: u8,
@@ -18,4 +23,10 @@ pub struct AlignedRun {
 pub struct Runs {
     pub tail: AlignedRun,
     pub body: AlignedRun,
+}
+
+// What a slot leaves and tells.
+pub struct Given {
+    pub back: Back,
+    pub runs: Runs,
 }

@@ -17,7 +17,11 @@ pub(crate) fn restart_refusal(len: usize, at: u64, r: Run) -> u8
 {
     if len == 9296 {
         if sync_step::ranged::in_range(r) {
-            if ranged::before(at, r.base, r.t) { 7 } else { 0 }
+            if ranged::before(at, r.base, r.t) {
+                7
+            } else {
+                0
+            }
         } else {
             6
         }
