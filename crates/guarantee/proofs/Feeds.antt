@@ -268,7 +268,7 @@ module _ (b : Block) (soft : List ℤ) where
       let e = after-one s x soft in
       let q = soft-none s x soft z t in
       let v : lentOf (afterCall s (callAt d i)) ≡ leaves s i =
-          ap (λ (y : System). record { acc = y .acc; store = y .store; soft = soft }) e ∙ ap (λ (u : List ℤ). record { acc = leaves s i .acc; store = leaves s i .store; soft = u }) (sym q) in
+      ap (λ (y : System). record { acc = y .acc; store = y .store; soft = soft }) e ∙ ap (λ (u : List ℤ). record { acc = leaves s i .acc; store = leaves s i .store; soft = u }) (sym q) in
       more-fed s i k (fedFrom b k (i + 1) (answer s i .receiver) (leaves s i)) (silent-one s x soft z t)
       (subst (λ (y : Lent). FedIs (afterCall s (callAt d i)) (i + 1) k (fedFrom b k (i + 1) (answer s i .receiver) y)) v
       (subst (λ (y : Receiver). FedIs (afterCall s (callAt d i)) (i + 1) k (fedFrom b k (i + 1) y (lentOf (afterCall s (callAt d i))))) (ap (λ (y : System). y .receiver) e) w))
