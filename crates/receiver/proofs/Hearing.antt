@@ -1,16 +1,25 @@
--- What each event of a call needs, one after another. Assumes nothing.
+-- What each event of a call needs, one after another, and the slot that they complete. Assumes nothing.
 use Prim.Native.Nat.{ℕ}
+use Rattle.laws.proofs.Tests.{if-both}
+use Rattle.sync_heads.specs.declared.Head.{Head as Told}
 use Rattle.sync_heads.specs.declared.Word.{Word}
 use Rattle.sync_heads.specs.declared.Word.the-variants.{Ssync, Fsync, NotFsync}
 use Rattle.sync_step.specs.declared.Event.{Event}
 use Rattle.sync_step.specs.declared.Event.the-variants.{Nothing, Head, Period, Lost}
+use Rattle.sync_step.specs.declared.Events.{Events}
 use Rattle.carrier.specs.declared.Nco.{Nco}
 use Rattle.carrier.specs.Ranges.{NcoOk}
-use Rattle.phase.specs.Phase.{begunOf}
-use Rattle.phase.specs.Ranges.{PhaseOk}
+use Rattle.phase.specs.declared.Due.{Due}
+use Rattle.phase.specs.declared.Due.the-variants.{Nothing as NoSlot, Slot}
+use Rattle.phase.specs.declared.SlotPhase.{SlotPhase}
+use Rattle.phase.specs.declared.SlotPhase.the-variants.{Idle, Holds}
+use Rattle.phase.specs.Phase.{begunOf, dueIn, wholeOf}
+use Rattle.phase.specs.Ranges.{HeadOk, PhaseOk}
+use Rattle.phase.proofs.Laws.{whole-ok}
+use Rattle.phase_range.proofs.Steps.{whole-in-range}
 use Rattle.receiver.specs.declared.Listened.{Listened}
-use Rattle.receiver.specs.Heads.{eventHeard}
-use Rattle.receiver.specs.Parts.{EventOk, HearOk, LaterOk, Quiet, TuneOk}
+use Rattle.receiver.specs.Heads.{eventHeard, listened, orDue}
+use Rattle.receiver.specs.Parts.{DueOk, EventOk, EventsOk, HearOk, LaterOk, Quiet, TuneOk}
 
 tune : (n : Nco) (w : Word) → NcoOk n → TuneOk n w
 tune n Ssync o = o
@@ -47,3 +56,38 @@ later-phase k l Nothing p o = p
 later-phase k l (Head h) p o = o .0
 later-phase k l (Period x) p o = p
 later-phase k l (Lost at) p o = p
+
+-- ---- the slot that a call completes is one between two such heads
+due-in : (k : ℕ) (s : SlotPhase) (h : Told) → PhaseOk s → HeadOk h → DueOk (dueIn k s h)
+unfolding dueIn
+due-in k Idle h p o = tt
+due-in k (Holds x) h p o = if-both DueOk _ (Slot (wholeOf (x .head) h)) NoSlot (whole-ok (wholeOf (x .head) h) (whole-in-range (x .head) h p o)) tt
+
+or-due : (a b : Due) → DueOk a → DueOk b → DueOk (orDue a b)
+unfolding orDue
+or-due NoSlot b p q = q
+or-due (Slot w) b p q = p
+
+heard-due : (k : ℕ) (l : Listened) (e : Event) → PhaseOk (l .phase) → DueOk (l .due) → EventOk e → DueOk (eventHeard k l e .due)
+unfolding eventHeard
+heard-due k l Nothing p d o = d
+heard-due k l (Head h) p d o = or-due (l .due) (dueIn k (l .phase) h) d (due-in k (l .phase) h p o)
+heard-due k l (Period x) p d o = d
+heard-due k l (Lost at) p d o = d
+
+sooner : (e : Event) → LaterOk e → EventOk e
+sooner Nothing o = tt
+sooner (Head h) o = o .0
+sooner (Period x) o = tt
+sooner (Lost at) o = tt
+
+pub listened-due : (k : ℕ) (l : Listened) (es : Events) → PhaseOk (l .phase) → DueOk (l .due) → EventsOk es → DueOk (listened k l es .due)
+unfolding listened
+listened-due k l es p d o =
+    let l1 = eventHeard k l (es .first) in
+    let l2 = eventHeard k l1 (es .second) in
+    let p1 = first-phase k l (es .first) p (o .first) in
+    let p2 = later-phase k l1 (es .second) p1 (o .second) in
+    let d1 = heard-due k l (es .first) p d (o .first) in
+    let d2 = heard-due k l1 (es .second) p1 d1 (sooner (es .second) (o .second)) in
+    heard-due k l2 (es .third) p2 d2 (sooner (es .third) (o .third))

@@ -1,5 +1,5 @@
 -- What the functions between the entries and the definitions give, and what they need.
-use Prim.Native.Nat.{ℕ, _+_, _^_, _<_}
+use Prim.Native.Nat.{ℕ, _+_, _^_, _≤_, _<_}
 use mathlib.Core.Bool.{Bool, true, false, _&&_}
 use mathlib.Core.List.{List}
 use mathlib.Core.Path.{_≡_}
@@ -18,17 +18,21 @@ use Rattle.sync_step.specs.declared.Run.{Run}
 use Rattle.sync_step.specs.Events.{noEvents}
 use Rattle.sync_step.specs.Ranges.{RunOk}
 use Rattle.sync_step.specs.Step.{stepOf}
-use Rattle.sync.specs.Sync.{windowAfter, keptWindow}
+use Rattle.sync.specs.Sync.{windowAfter, keptWindow, storedOf}
 use Rattle.carrier.specs.declared.Nco.{Nco}
 use Rattle.carrier.specs.Carrier.{rotatedOf, advancedNco}
 use Rattle.carrier.specs.Ranges.{NcoOk}
 use Rattle.phase.specs.declared.SlotPhase.{SlotPhase}
-use Rattle.phase.specs.declared.Due.the-variants.{Nothing as NoSlot}
+use Rattle.phase.specs.declared.Due.{Due}
+use Rattle.phase.specs.declared.Due.the-variants.{Nothing as NoSlot, Slot}
+use Rattle.phase.specs.declared.Corrected.{Corrected}
 use Rattle.phase.specs.Phase.{pushedIn, storedIn, symbolAt}
-use Rattle.phase.specs.Ranges.{HeadOk, PhaseOk}
+use Rattle.phase.specs.Ranges.{HeadOk, PhaseOk, WholeOk}
 use Rattle.frame.specs.declared.Back.{Back}
-use Rattle.receiver_slot.specs.declared.Points.{Points}
+use Rattle.frame.specs.declared.AlignedSymbol.{AlignedSymbol}
+use Rattle.frame.specs.Stretch.{afterAll}
 use Rattle.receiver_slot.specs.declared.Runs.{Runs}
+use Rattle.receiver_slot.specs.Slot.{alignedAll, dueSymbols, overfull, runsOf, softAll, waitingBefore, writtenOn}
 use Rattle.receiver.specs.declared.Front.{Front}
 use Rattle.receiver.specs.declared.Receiver.{Receiver}
 use Rattle.receiver.specs.declared.Listened.{Listened}
@@ -36,7 +40,7 @@ use Rattle.receiver.specs.declared.Ahead.{Ahead}
 use Rattle.receiver.specs.declared.Answer.{Answer}
 use Rattle.receiver.specs.Started.{started, keptOf}
 use Rattle.receiver.specs.Heads.{listened, losesIn}
-use Rattle.receiver.specs.Symbol.{nextOf}
+use Rattle.receiver.specs.Symbol.{nextOf, slotPast}
 use Rattle.receiver.specs.Ranges.{receiverInRange}
 use Rattle.receiver.specs.Answers.{noRuns}
 
@@ -56,6 +60,17 @@ soonRefusal r acc store soft f s table =
 
 unfoldable pub refusedBy : ℕ → Receiver → Answer
 refusedBy n r = record { refusal = n; receiver = r; events = noEvents; runs = noRuns }
+
+-- what is known where it is 0
+pub record Soon (r : Receiver) (acc store soft : ℕ) (f s : List ℤ) (table : ℕ) : Type 0 where
+  pub within : receiverInRange r ≡ true
+  pub next : nextOf r < 2 ^ 62
+  pub long : acc ≡ 9296
+  pub held : store ≡ 18592
+  pub buffer : 44880 ≤ soft
+  pub first : onesOf f ≡ true
+  pub second : onesOf s ≡ true
+  pub cosines : table ≡ 1024
 
 -- ---- heads: an F head leaves the carrier as it is, so that only an Ssync head needs its range
 abbrev pub TuneOk : Nco → Word → Type 0
@@ -96,6 +111,11 @@ pub record EventsOk (es : Events) : Type 0 where
   pub first : EventOk (es .first)
   pub second : LaterOk (es .second)
   pub third : LaterOk (es .third)
+
+-- the slot that they complete
+abbrev pub DueOk : Due → Type 0
+DueOk NoSlot = Unit {0}
+DueOk (Slot w) = WholeOk w
 
 -- ---- a symbol, looked at before anything is written; level is the accumulator of its position
 unfoldable pub windowBy : Front → ℤ → ℤ → List ℤ → List ℤ
@@ -146,3 +166,32 @@ storeBy r a store =
 
 unfoldable pub takenBy : Receiver → Ahead → Back → Runs → Answer
 takenBy r a b runs = record { refusal = 0; receiver = afterBy r a b; events = a .step .events; runs = runs }
+
+-- ---- the rest of its refusals, and all that it answers and leaves
+unfoldable pub dueRefusal : Receiver → Due → List ℤ → List ℤ → List ℤ → List ℤ → ℕ
+dueRefusal r d f s table store = if slotPast 9296 d then 7 else if overfull (r .back) (dueSymbols 9296 d table store) f s then 8 else 0
+
+module _ (r : Receiver) (a : Ahead) (f s table store : List ℤ) where
+  unfoldable pub laterRefusal : ℕ
+  laterRefusal = dueRefusal r (a .heard .due) f s table store
+
+  unfoldable pub symbolsBy : List Corrected
+  symbolsBy = dueSymbols 9296 (a .heard .due) table store
+
+  unfoldable pub alignedNow : List AlignedSymbol
+  alignedNow = alignedAll (r .back) symbolsBy f s
+
+  unfoldable pub answerBy : Answer
+  answerBy =
+      if eqb laterRefusal 0
+      then takenBy r a (afterAll (r .back) symbolsBy f s) (runsOf (r .points) (waitingBefore (r .back) symbolsBy) alignedNow)
+      else refusedBy laterRefusal r
+
+  unfoldable pub accBy : ℕ → List ℕ → List ℕ
+  accBy p acc = if eqb laterRefusal 0 then storedOf (a .step .stores) p acc else acc
+
+  unfoldable pub slotStore : List ℤ
+  slotStore = if eqb laterRefusal 0 then storeBy r a store else store
+
+  unfoldable pub softBy : List ℤ → List ℤ
+  softBy soft = if eqb laterRefusal 0 then writtenOn (softAll (r .points) alignedNow) soft else soft

@@ -12,7 +12,7 @@ ghost use Rattle.carrier.specs.Carrier.{heardOf};
 ghost use Rattle.carrier.specs.Ranges.{NcoOk};
 ghost use Rattle.phase.specs.Ranges.{PhaseOk};
 ghost use Rattle.receiver.specs.Heads.{orDue, eventHeard, listened, isLost, losesIn};
-ghost use Rattle.receiver.specs.Parts.{TuneOk, HeadHeard, HearOk, EventsOk};
+ghost use Rattle.receiver.specs.Parts.{TuneOk, HeadHeard, HearOk, EventsOk, DueOk};
 
 fn or_due(a: Due, b: Due) -> Due
     ensures { λ r. ⌜ r ≡ orDue a b ⌝ }
@@ -66,8 +66,8 @@ fn event_heard(l: Listened, e: Event) -> Listened
 
 // The events of a call in order.
 pub(crate) fn listen(l: Listened, es: Events) -> Listened
-    requires { ⌜ (NcoOk (l .nco)) × (PhaseOk (l .phase)) × (EventsOk es) ⌝ }
-    ensures { λ r. ⌜ r ≡ listened 9296 l es ⌝ }
+    requires { ⌜ (NcoOk (l .nco)) × (PhaseOk (l .phase)) × (DueOk (l .due)) × (EventsOk es) ⌝ }
+    ensures { λ r. ⌜ (r ≡ listened 9296 l es) × (DueOk (r .due)) ⌝ }
 {
     let a = es.first;
     let b = es.second;

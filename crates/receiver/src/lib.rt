@@ -5,6 +5,7 @@ mod loads;
 mod looks;
 mod ranges;
 mod refusals;
+mod slots;
 mod starts;
 
 use carrier::Nco;
@@ -20,7 +21,7 @@ use sync_heads::Record;
 use sync_step::Events;
 use sync_step::Step;
 ghost use mathlib.Core.Path.{_≡_};
-ghost use Rattle.receiver.specs.Answers.{newAnswer, newAcc, pointsAnswer, tapsAnswer, openAnswer, endAnswer, restartAnswer, restartAcc};
+ghost use Rattle.receiver.specs.Answers.{newAnswer, newAcc, symbolAnswer, symbolLent, pointsAnswer, tapsAnswer, openAnswer, endAnswer, restartAnswer, restartAcc};
 
 // What a loss or a restart keeps.
 pub struct Kept {
@@ -98,6 +99,31 @@ pub fn new(at: u64, step: i32, acc: &mut [u32]) -> Answered
             refusal: 1,
             receiver: r,
         }
+    }
+}
+
+// One symbol, with the words and the carrier table.
+pub fn symbol(
+    r: Receiver,
+    xi: i8,
+    xq: i8,
+    f: [i8; 48],
+    s: [i8; 48],
+    table: &[i16],
+    acc: &mut [u32],
+    store: &mut [i16],
+    soft: &mut [i8],
+) -> Answer
+    ensures { λ a. ⌜ (a ≡ symbolAnswer r (record { xi = xi; xq = xq; f = f; s = s; table = now (table .entry) }) (record { acc = now (acc .entry); store = now (store .entry); soft = now (soft .entry) })) × (now (acc .exit) ≡ symbolLent r (record { xi = xi; xq = xq; f = f; s = s; table = now (table .entry) }) (record { acc = now (acc .entry); store = now (store .entry); soft = now (soft .entry) }) .acc) × (now (store .exit) ≡ symbolLent r (record { xi = xi; xq = xq; f = f; s = s; table = now (table .entry) }) (record { acc = now (acc .entry); store = now (store .entry); soft = now (soft .entry) }) .store) × (now (soft .exit) ≡ symbolLent r (record { xi = xi; xq = xq; f = f; s = s; table = now (table .entry) }) (record { acc = now (acc .entry); store = now (store .entry); soft = now (soft .entry) }) .soft) ⌝ }
+{
+    let n = refusals::soon(r, acc.len(), store.len(), soft.len(), &f, &s, table.len());
+    if n == 0 {
+        let y = r.front.sync.run;
+        let p = sync_step::ranged::place(y.t);
+        let a = looks::look(r, xi, xq, &f, &s, table, acc[p]);
+        slots::go_on(r, a, p, &f, &s, table, acc, store, soft)
+    } else {
+        refusals::refused(n, r)
     }
 }
 

@@ -13,7 +13,7 @@ ghost use lib.ListN.{length};
 ghost use Rattle.sync_corr.specs.Correlate.{bothOf, onesOf};
 ghost use Rattle.sync_step.specs.Ranges.{RunOk};
 ghost use Rattle.sync_step.specs.Step.{stepOf};
-ghost use Rattle.receiver.specs.Parts.{windowBy, aheadBy, AheadOk, EventsOk};
+ghost use Rattle.receiver.specs.Parts.{windowBy, aheadBy, AheadOk, EventsOk, DueOk};
 
 // The 24 symbols up to this one, turned back by the carrier.
 fn window(a: Front, xi: i8, xq: i8, table: &[i16]) -> [i16; 48]
@@ -47,7 +47,7 @@ pub(crate) fn look(
     level: u32,
 ) -> Ahead
     requires { ⌜ AheadOk r (now f) (now s) (now table) ⌝ }
-    ensures { λ a. ⌜ a ≡ aheadBy r xi xq (now (f .entry)) (now (s .entry)) (now (table .entry)) level ⌝ }
+    ensures { λ a. ⌜ (a ≡ aheadBy r xi xq (now (f .entry)) (now (s .entry)) (now (table .entry)) level) × (DueOk (a .heard .due)) ⌝ }
 {
     let a = r.front;
     let n = a.nco;

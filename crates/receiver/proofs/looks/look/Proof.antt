@@ -18,14 +18,14 @@ advanced-requires c κs = search needs
 listen-requires : tie.Need-listen-requires
 listen-requires c κs =
     let o = c .before .before .before .before .before .before .before .before in
-    (rw (c .advanced .ensures) (advanced-ok (o .args .r .front .nco) (o .pre .nco)), o .pre .phase, c .before .before .step .ensures .1)
+    (rw (c .advanced .ensures) (advanced-ok (o .args .r .front .nco) (o .pre .nco)), o .pre .phase, tt, c .before .before .step .ensures .1)
 
 returns : tie.Need-returns
 unfolding aheadBy
 returns c =
     let o = c .before .before .before .before .before .before .before .before .before in
     let w = rw (toZ-ofZ (o .fits .xi), toZ-ofZ (o .fits .xq)) at (c .before .before .before .before .before .window .ensures) in
-    rw (c .listen .ensures, c .before .advanced .ensures, c .before .before .before .step .ensures .0, w)
+    (rw (c .listen .ensures .0, c .before .advanced .ensures, c .before .before .before .step .ensures .0, w), c .listen .ensures .1)
 
 pub look-spec : {M : Type 1} → statement M
 look-spec =
