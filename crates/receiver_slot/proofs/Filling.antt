@@ -71,7 +71,7 @@ few-pushed : (b : Back) (c : Corrected) (f s : List ℤ) → gapAt (b .last) (c 
 unfolding pushedBack takenBy if_then_else_
 few-pushed b c f s g l = rw (no-gap b (c .at) g, lt-ltb (b .metas .count) 5 l)
 
-five-pushed : (b : Back) (c : Corrected) (f s : List ℤ) → gapAt (b .last) (c .at) ≡ false → 5 ≤ b .metas .count →
+pub five-pushed : (b : Back) (c : Corrected) (f s : List ℤ) → gapAt (b .last) (c .at) ≡ false → 5 ≤ b .metas .count →
     pushedBack b c f s .back ≡ record {
       eq = trainedAt (pushedEq (b .eq) (c .y .i) (c .y .q)) (b .metas .first) f s;
       metas = moved (b .metas) (metaOf c);

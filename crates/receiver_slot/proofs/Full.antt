@@ -36,11 +36,11 @@ or-false : (t : Bool) → (t || false) ≡ t
 or-false true = refl
 or-false false = refl
 
-corrected-at : (w : WholeSlot) (table store : List ℤ) (j : ℕ) → correctedOf w table store j .at ≡ w .head .at + j
+pub corrected-at : (w : WholeSlot) (table store : List ℤ) (j : ℕ) → correctedOf w table store j .at ≡ w .head .at + j
 unfolding correctedOf
 corrected-at w table store j = refl
 
-corrected-j : (w : WholeSlot) (table store : List ℤ) (j : ℕ) → correctedOf w table store j .j ≡ j
+pub corrected-j : (w : WholeSlot) (table store : List ℤ) (j : ℕ) → correctedOf w table store j .j ≡ j
 unfolding correctedOf
 corrected-j w table store j = refl
 
@@ -167,7 +167,7 @@ count-is : (w : Metas) → Between w → (w .count ≡ 0) ⊎ (w .count ≡ 5)
 count-is w (none e) = inl e
 count-is w (five e i j k l m) = inr e
 
-begins : (at : ℕ) (b : Back) → Between (b .metas) → b .eq .filled ≤ 11 → gapAt (b .last) at ≡ false → Filling at (b .metas .count) (b .eq .filled) 0 b
+pub begins : (at : ℕ) (b : Back) → Between (b .metas) → b .eq .filled ≤ 11 → gapAt (b .last) at ≡ false → Filling at (b .metas .count) (b .eq .filled) 0 b
 begins at b (none e) h g =
     record {
       count = omega (arith, e);
@@ -213,7 +213,7 @@ few-trainings : (n : ℕ) → trainingsOn n ≤ 24
 unfolding trainingsOn if_then_else_
 few-trainings n = by-test (eqb n 11) (λ t. rw t (omega arith)) (λ t. rw t (omega arith))
 
-line-few : (b : Back) → (b .eq .filled ≡ 0) ⊎ (b .eq .filled ≡ 11) → b .eq .filled ≤ 11
+pub line-few : (b : Back) → (b .eq .filled ≡ 0) ⊎ (b .eq .filled ≡ 11) → b .eq .filled ≤ 11
 line-few b (inl e) = omega (arith, e)
 line-few b (inr e) = omega (arith, e)
 

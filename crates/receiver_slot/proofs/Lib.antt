@@ -7,3 +7,5 @@ pub mod Buffers
 pub mod Fits
 pub mod Filling
 pub mod Full
+pub mod Settled
+pub mod Rest

@@ -177,6 +177,19 @@ written-more xs ys l =
     let e : drop (length xs + length ys) (xs ++ d) ≡ drop (length ys) d = drop-append-add xs d (length ys) in
     rw (take-at xs d (length xs) refl, e, drop-drop (length ys) (length xs) l, length-append xs ys) (sym (append-assoc xs ys (drop (length xs + length ys) l)))
 
+-- values behind those that were put
+pub put-more : (o : ℕ) (xs ys l : List ℤ) → o ≤ length l → putAt (o + length xs) ys (putAt o xs l) ≡ putAt o (xs ++ ys) l
+unfolding putAt
+put-more o xs ys l h =
+    let d = drop (o + length xs) l in
+    let a = take o l ++ xs in
+    let e : length a ≡ o + length xs = omega (arith, h, length-append (take o l) xs, length-take o l) in
+    let g : drop (o + length xs + length ys) (a ++ d) ≡ drop (length ys) d =
+    ap (λ (n : ℕ). drop (n + length ys) (a ++ d)) (sym e) ∙ drop-append-add a d (length ys) in
+    let n : o + length xs + length ys ≡ o + length (xs ++ ys) = omega (arith, length-append xs ys) in
+    rw (← (append-assoc (take o l) xs d), take-at a d (o + length xs) e, g, drop-drop (length ys) (o + length xs) l, n)
+    (append-assoc (take o l) xs (ys ++ drop (o + length (xs ++ ys)) l) ∙ ap (λ (x : List ℤ). take o l ++ x) (sym (append-assoc xs ys (drop (o + length (xs ++ ys)) l))))
+
 -- ---- a turn: q is what a symbol makes of the back, its values go to place o
 module _ (b : Back) (w : WholeSlot) (table store f s : List ℤ) where
   pub turn-pushed : (n : ℕ) (x : Back) (q : Pushed) → x ≡ backAt n b w table store f s → q ≡ pushedBack x (correctedOf w table store n) f s →

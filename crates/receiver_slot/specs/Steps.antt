@@ -1,12 +1,20 @@
 -- What the private functions promise: the alignment after n symbols of a slot, and places of the buffer.
-use Prim.Native.Nat.{ℕ, _+_}
-use mathlib.Core.List.{List, _++_}
+use Prim.Native.Nat.{ℕ, zero, suc, _+_, _≤_, _^_}
+use mathlib.Core.Path.{_≡_}
+use mathlib.Core.List.{List, [], _++_}
 use lib.Dec.{eqb}
 use lib.IntN.{ℤ}
 use lib.ListN.{length, take, drop}
 use Rattle.laws.specs.Choice.{if_then_else_}
 use Rattle.phase.specs.declared.WholeSlot.{WholeSlot}
 use Rattle.phase.specs.Phase.{correctedOf}
+use Rattle.sync_heads.specs.declared.Head.{Head}
+use Rattle.eq_fir.specs.Fir.{lineAfter}
+use Rattle.eq_fir.specs.Rows.{Bytes, outputBy}
+use Rattle.frame_map.specs.Map.{partOf}
+use Rattle.phase.specs.Ranges.{WholeOk}
+use Rattle.frame_line.specs.declared.LastAt.the-variants.{At}
+use Rattle.frame_line.specs.declared.Meta.{Meta}
 use Rattle.frame_line.specs.declared.Metas.{Metas}
 use Rattle.frame.specs.declared.Back.{Back}
 use Rattle.frame.specs.declared.Pushed.{Pushed}
@@ -15,7 +23,8 @@ use Rattle.frame.specs.Stretch.{afterAll}
 use Rattle.receiver_slot.specs.declared.Points.{Points}
 use Rattle.receiver_slot.specs.declared.AlignedRun.{AlignedRun}
 use Rattle.receiver_slot.specs.declared.Runs.{Runs}
-use Rattle.receiver_slot.specs.Slot.{correctedAll, alignedAll, softAll, noRun}
+use Rattle.receiver_slot.specs.Slot.{correctedAll, alignedAll, softAll, softOf, noRun}
+use Rattle.receiver_slot.specs.Ranges.{PointsOk}
 
 -- the back after n symbols, what the next one makes of it, and the soft bits of all that came out
 unfoldable pub backAt : ℕ → Back → WholeSlot → List ℤ → List ℤ → List ℤ → List ℤ → Back
@@ -37,3 +46,47 @@ tailOf p w = if eqb (w .count) 0 then noRun else record { at = w .first .at; j =
 
 unfoldable pub runsFrom : Points → Back → ℕ → Runs
 runsFrom p b at = record { tail = tailOf p (joinedTo b at .metas); body = record { at = at; j = 0; count = 9291; bits = p .bits } }
+
+-- ---- once nothing trains any more
+-- the line behind symbols 29 to 28 + k, and the soft bits of those that they let out
+unfoldable pub lineOn : ℕ → List ℤ → WholeSlot → List ℤ → List ℤ → List ℤ
+lineOn zero line w table store = line
+lineOn (suc k) line w table store =
+    let y = correctedOf w table store (29 + k) .y in
+    lineAfter (lineOn k line w table store) (y .i) (y .q)
+
+unfoldable pub softOn : ℕ → Points → List ℤ → List ℤ → WholeSlot → List ℤ → List ℤ → List ℤ
+softOn zero p rows line w table store = []
+softOn (suc k) p rows line w table store =
+    softOn k p rows line w table store ++ softOf (partOf (24 + k)) p (outputBy rows (lineOn (suc k) line w table store))
+
+-- what symbol j of a head's slot comes out with
+unfoldable pub metaAt : Head → ℕ → Meta
+metaAt h j = record { at = h .at + j; j = j; word = h .word; slot = h .slot }
+
+-- the back behind a whole slot, by one within it and the line
+unfoldable pub endedOf : Back → List ℤ → Head → Back
+endedOf b line h =
+    record {
+      eq = record { line = line; filled = 11; taps = b .eq .taps; from = b .eq .from; opened = b .eq .opened; sums = b .eq .sums };
+      metas = record {
+        count = 5;
+        first = metaAt h 9291;
+        second = metaAt h 9292;
+        third = metaAt h 9293;
+        fourth = metaAt h 9294;
+        fifth = metaAt h 9295;
+      };
+      last = At (h .at + 9295);
+    }
+
+-- what the rest of a slot needs
+pub record RestOk (line rows : List ℤ) (w : WholeSlot) (p : Points) (place : ℕ) (table store soft : List ℤ) : Type 0 where
+  pub line-long : length line ≡ 22
+  pub bytes : Bytes rows
+  pub whole : WholeOk w
+  pub accepted : w .head .at + 9296 ≤ 2 ^ 62
+  pub points : PointsOk p
+  pub cosines : length table ≡ 1024
+  pub held : length store ≡ 18592
+  pub room : place + length (softOn 9267 p rows line w table store) ≤ length soft

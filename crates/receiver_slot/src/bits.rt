@@ -9,6 +9,7 @@ ghost use Prim.Native.Nat.{_+_, _*_, _≤_, _<_, _^_};
 ghost use lib.IntN.{pos};
 ghost use lib.ListN.{length};
 ghost use Rattle.demap.specs.Demap.{labelMetric, softBits};
+ghost use Rattle.eq_fir.specs.Rows.{Bytes, outputBy};
 ghost use Rattle.frame_map.specs.Map.{partOf};
 ghost use Rattle.receiver_slot.specs.Slot.{alignedBy, softOf, softAll};
 ghost use Rattle.receiver_slot.specs.Ranges.{PointsOk};
@@ -60,5 +61,29 @@ pub(crate) fn told(p: Points, out: Aligned, o: usize, soft: &mut [i8]) -> usize
     match out {
         Aligned::Nothing => o,
         Aligned::Given(a) => symbol(p, a, o, soft),
+    }
+}
+
+// The soft bits of what a line gives at place j of the slot; where there are none, the filter is left out.
+pub(crate) fn output(
+    p: Points,
+    rows: &[i16; 96],
+    line: &[i16; 22],
+    j: usize,
+    o: usize,
+    soft: &mut [i8],
+) -> usize
+    requires { ⌜ (PointsOk p) × (Bytes (now rows)) × (length (now line) ≡ 22) × (o + length (softOf (partOf j) p (outputBy (now rows) (now line))) ≤ length (now soft)) ⌝ }
+    ensures { λ r. ⌜ (r ≡ o + length (softOf (partOf j) p (outputBy (now (rows .entry)) (now (line .entry))))) × (now (soft .exit) ≡ putAt o (softOf (partOf j) p (outputBy (now (rows .entry)) (now (line .entry)))) (now (soft .entry))) ⌝ }
+{
+    match frame_map::part(j) {
+        SlotPart::Sync(_) => o,
+        SlotPart::Pilot(_) => o,
+        SlotPart::Main(_) => {
+            let z = eq_fir::ranged_rows::output(rows, line);
+            main_symbol(p, z, o, soft)
+        }
+        SlotPart::Tmcc(_) => o,
+        SlotPart::Refused(_) => o,
     }
 }

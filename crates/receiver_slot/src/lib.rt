@@ -30,3 +30,9 @@ pub struct Given {
     pub back: Back,
     pub runs: Runs,
 }
+
+// The back within a slot, and the place of the next soft bit.
+struct Begun {
+    back: Back,
+    place: usize,
+}

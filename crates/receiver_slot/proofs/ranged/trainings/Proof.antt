@@ -2,7 +2,6 @@
 use native.Mathlib.Omega.{arith}
 use Rattle.laws.specs.Choice.{cases}
 use Rattle.receiver_slot.specs.Full.{trainingsOn}
-use borrow.Author.Needs.{needs}
 use Rattle.receiver_slot.proofs.ranged.trainings.Statement.{statement}
 use Rattle.receiver_slot.proofs.ranged.trainings.Tie as tie
 
