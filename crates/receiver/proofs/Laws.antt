@@ -1,22 +1,21 @@
--- A turn of each loop over an array, and its end; and what an accepted load tells. Assumes nothing.
+-- What an accepted load tells, points with zeros behind them, and what a loss keeps. Assumes nothing.
 use Prim.Native.Nat.{ℕ, suc, _+_, _-_, _*_, _^_, _≤_, _<_}
-use mathlib.Core.Bool.{Bool, true, false, not, _&&_, _||_}
+use mathlib.Core.Bool.{Bool, true, false, not, _||_}
 use mathlib.Core.List.{List, _∷_, [], _++_, append-assoc}
-use mathlib.Core.Path.{_≡_, refl, sym, ap, _∙_}
+use mathlib.Core.Path.{_≡_, refl, sym, _∙_}
 use native.Mathlib.Numerals.{add-one}
 use native.Mathlib.Omega.{arith}
-use borrow.Author.Tests.{eqb-true, eqb-false, ltb-false}
-use lib.Dec.{eqb, leb, ltb}
+use borrow.Author.Tests.{eqb-true, ltb-false}
+use lib.Dec.{eqb, ltb}
 use lib.IntN.{ℤ, pos, negsuc, natAbs}
-use lib.ListN.{drop, getD, length, replicate, set, take}
+use lib.ListN.{getD, length, replicate, set, take}
 use lib.Pow.{pow-mono}
-use lib.Seq.{drop-cons, drop-length, length-take-le, set-at, take-length, take-suc}
+use lib.Seq.{length-take-le, set-at, take-length, take-suc}
 use Rattle.laws.specs.Choice.{if_then_else_, if-yes, if-no}
 use lib.Signed.{ltZ}
 use Rattle.laws.proofs.Size.{pos-abs}
 use Rattle.laws.proofs.Tests.{by-test, neither, never}
 use Rattle.demap.specs.Answers.{badPoints, badScale}
-use Rattle.eq_train.proofs.Tested.{and-assoc, and-true}
 use Rattle.carrier.specs.declared.Nco.{Nco}
 use Rattle.carrier.specs.Carrier.{advancedNco}
 use Rattle.carrier.specs.Ranges.{NcoOk}
@@ -27,18 +26,7 @@ use Rattle.receiver.specs.declared.Receiver.{Receiver}
 use Rattle.receiver.specs.Parts.{leftBy, phaseBy}
 use Rattle.receiver.specs.Started.{keptOf}
 use Rattle.receiver.specs.Answers.{pointsRefusal}
-use Rattle.receiver.specs.Ranges.{allWithin, receiverInRange}
-
--- ---- each number of an array within a size
-pub all-next : (b : ℕ) (l : List ℤ) (k : ℕ) (all t : Bool) → k < length l → t ≡ leb (natAbs (getD l k (pos 0))) b →
-    ((all && t) && allWithin b (drop (k + 1) l)) ≡ (all && allWithin b (drop k l))
-unfolding allWithin
-all-next b l k all t h e =
-    and-assoc all t (allWithin b (drop (k + 1) l)) ∙ ap (λ (x : Bool). all && x) (rw (e, add-one k) (ap (allWithin b) (sym (drop-cons l k (pos 0) h))))
-
-pub all-end : (b : ℕ) (l : List ℤ) (all : Bool) → (all && allWithin b (drop (length l) l)) ≡ all
-unfolding allWithin
-all-end b l all = rw (drop-length l) (and-true all)
+use Rattle.receiver.specs.Ranges.{receiverInRange}
 
 -- ---- points with zeros behind them
 pub filled-next : (l : List ℤ) (k : ℕ) → k < length l → length l ≤ 64 →

@@ -68,11 +68,8 @@ fn in_state(r: Receiver) -> u8
 {
     if ranges::receiver_within(r) {
         let y = r.front.sync.run;
-        if sync::ranged::past_end(y.base, y.t) {
-            7
-        } else {
-            0
-        }
+        let past = sync::ranged::past_end(y.base, y.t);
+        if past { 7 } else { 0 }
     } else {
         6
     }
