@@ -1,4 +1,4 @@
--- What an accepted load tells, points with zeros behind them, and what a loss keeps. Assumes nothing.
+-- Points with zeros behind them, and what an accepted load tells. Assumes nothing.
 use Prim.Native.Nat.{ℕ, suc, _+_, _-_, _*_, _^_, _≤_, _<_}
 use mathlib.Core.Bool.{Bool, true, false, not, _||_}
 use mathlib.Core.List.{List, _∷_, [], _++_, append-assoc}
@@ -16,15 +16,7 @@ use lib.Signed.{ltZ}
 use Rattle.laws.proofs.Size.{pos-abs}
 use Rattle.laws.proofs.Tests.{by-test, neither, never}
 use Rattle.demap.specs.Answers.{badPoints, badScale}
-use Rattle.carrier.specs.declared.Nco.{Nco}
-use Rattle.carrier.specs.Carrier.{advancedNco}
-use Rattle.carrier.specs.Ranges.{NcoOk}
-use Rattle.frame.specs.declared.Back.{Back}
-use Rattle.phase.specs.declared.SlotPhase.{SlotPhase}
-use Rattle.receiver.specs.declared.Ahead.{Ahead}
 use Rattle.receiver.specs.declared.Receiver.{Receiver}
-use Rattle.receiver.specs.Parts.{leftBy, phaseBy}
-use Rattle.receiver.specs.Started.{keptOf}
 use Rattle.receiver.specs.Answers.{pointsRefusal}
 use Rattle.receiver.specs.Ranges.{receiverInRange}
 
@@ -70,14 +62,3 @@ points-taken r bits len k h =
     let m = eqb-true len (2 * 2 ^ bits) (not-false (eqb len (2 * 2 ^ bits)) (q .1)) in
     let s = neither (ltZ k (pos 0)) (ltZ (pos (2 ^ 24)) k) b in
     (omega (arith, m, few bits (ltb-false 5 bits (q .0))), pos-abs k (s .0), most k (s .0) (s .1))))
-
--- ---- the carrier's range is the trail's, which a symbol leaves
-pub advanced-ok : (n : Nco) → NcoOk n → NcoOk (advancedNco n)
-unfolding advancedNco
-advanced-ok n o = record { trail = o .trail }
-
--- ---- what is kept over a loss does not depend on the slot phase
-pub kept-left : (r : Receiver) (a : Ahead) (b : Back) (p : SlotPhase) →
-    keptOf (leftBy r a b p) ≡ keptOf (leftBy r a b (phaseBy (r .front .sync .run .t) p))
-unfolding keptOf leftBy
-kept-left r a b p = refl

@@ -4,4 +4,3 @@ pub mod Heads
 pub mod Symbol
 pub mod Ranges
 pub mod Answers
-pub mod Parts
