@@ -1,5 +1,5 @@
 -- The ranges of docs/RANGES.md, "Receiver": what receiver calls can leave in each number of a receiver's parts.
-use Prim.Native.Nat.{ℕ, zero, _+_, _-_, _^_}
+use Prim.Native.Nat.{ℕ, _+_, _-_, _^_}
 use mathlib.Core.Bool.{Bool, true, _&&_, _||_}
 use mathlib.Core.List.{List, [], _∷_}
 use lib.Dec.{eqb, leb}

@@ -1,7 +1,7 @@
 -- The heads that a step tells: each of a size that the slot phase takes, and at most one, the first, an Ssync head. Assumes nothing.
 use Prim.Native.Nat.{ℕ, _≤_, _^_}
 use mathlib.Core.Bool.{Bool, true, false}
-use mathlib.Core.Path.{_≡_, refl, subst, sym}
+use mathlib.Core.Path.{refl, subst, sym}
 use native.Mathlib.Omega.{arith}
 use lib.IntN.{ℤ, natAbs, pos}
 use lib.Signed.{ltZ}
@@ -28,7 +28,7 @@ use Rattle.sync_heads.specs.Ready.{Small, Smalls, StageOk}
 use Rattle.sync_heads.specs.Words.{negated, saidOf, sideOf}
 use Rattle.sync_heads.proofs.Laws.{said-small}
 use Rattle.sync_step.specs.declared.Event.{Event}
-use Rattle.sync_step.specs.declared.Event.the-variants.{Nothing, Head, Period, Lost}
+use Rattle.sync_step.specs.declared.Event.the-variants.{Period, Lost}
 use Rattle.sync_step.specs.declared.Events.{Events}
 use Rattle.sync_step.specs.declared.LastCorr.{LastCorr}
 use Rattle.sync_step.specs.declared.Run.{Run}

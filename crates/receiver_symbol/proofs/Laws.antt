@@ -1,5 +1,4 @@
 -- What a symbol leaves of the carrier's range, and what a loss keeps. Assumes nothing.
-use mathlib.Core.Bool.{not}
 use mathlib.Core.Path.{_≡_, refl}
 use Rattle.carrier.specs.declared.Nco.{Nco}
 use Rattle.carrier.specs.Carrier.{advancedNco}

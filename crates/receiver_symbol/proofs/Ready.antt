@@ -24,7 +24,7 @@ use Rattle.receiver_slot.proofs.Full.{full-is}
 use Rattle.receiver.specs.declared.Receiver.{Receiver}
 use Rattle.receiver_symbol.specs.Parts.{AheadOk, Soon, dueRefusal, soonRefusal, stateRefusal}
 use Rattle.receiver.specs.Symbol.{nextOf, slotPast}
-use Rattle.receiver_bounds.specs.Bounds.{within, allWithin, runWithin, phaseWithin, backWithin, pointsWithin}
+use Rattle.receiver_bounds.specs.Bounds.{allWithin, runWithin, phaseWithin, backWithin, pointsWithin}
 use Rattle.receiver_bounds.proofs.Ready.{run-wide, phase-ready, back-ready, points-ready}
 use Rattle.receiver.specs.Ranges.{frontWithin, receiverInRange}
 

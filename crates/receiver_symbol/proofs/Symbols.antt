@@ -2,7 +2,7 @@
 use Prim.Native.Nat.{ℕ, _^_}
 use mathlib.Core.Bool.{Bool, true, false, _&&_, _||_}
 use mathlib.Core.List.{List, []}
-use mathlib.Core.Path.{_≡_, refl, sym, ap, _∙_}
+use mathlib.Core.Path.{_≡_, refl, sym, _∙_}
 use borrow.Author.Tests.{eq-eqb, ne-eqb}
 use lib.Dec.{eqb, leb}
 use lib.IntN.{ℤ}
@@ -12,13 +12,12 @@ use Rattle.laws.proofs.Tests.{if-ap}
 use Rattle.sync_corr.specs.Correlate.{onesOf}
 use Rattle.sync_step.specs.Step.{placeOf}
 use Rattle.sync.specs.Sync.{storedOf, symbolOf}
-use Rattle.phase.specs.declared.Due.{Due}
 use Rattle.phase.specs.declared.Due.the-variants.{Nothing as NoSlot, Slot}
 use Rattle.phase.specs.declared.WholeSlot.{WholeSlot}
 use Rattle.frame.specs.declared.Back.{Back}
 use Rattle.frame.specs.Stretch.{afterAll}
 use Rattle.receiver_slot.specs.declared.Runs.{Runs}
-use Rattle.receiver_slot.specs.Slot.{alignedAll, correctedAll, dueSymbols, noRun, overfull, runOf, runsOf, softAll, waitingBefore, writtenOn}
+use Rattle.receiver_slot.specs.Slot.{alignedAll, correctedAll, dueSymbols, overfull, runOf, runsOf, softAll, waitingBefore, writtenOn}
 use Rattle.receiver_symbol.specs.declared.Ahead.{Ahead}
 use Rattle.receiver.specs.declared.Receiver.{Receiver}
 use Rattle.receiver.specs.Answers.{noRuns, storesFit, symbolAnswer, symbolLent, symbolRefusal}

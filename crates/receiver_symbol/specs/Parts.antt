@@ -1,10 +1,10 @@
 -- What the functions between the entries and the definitions give, and what they need.
 use Prim.Native.Nat.{ℕ, _+_, _^_, _≤_, _<_}
-use mathlib.Core.Bool.{Bool, true, false, _&&_}
+use mathlib.Core.Bool.{true, _&&_}
 use mathlib.Core.List.{List}
 use mathlib.Core.Path.{_≡_}
 use lib.Dec.{eqb, leb}
-use lib.IntN.{ℤ, pos}
+use lib.IntN.{ℤ}
 use lib.ListN.{length}
 use Rattle.laws.specs.Choice.{if_then_else_}
 use Rattle.sync_corr.specs.Correlate.{bothOf, onesOf}
@@ -14,7 +14,6 @@ use Rattle.sync_heads.specs.declared.Word.the-variants.{Ssync, Fsync, NotFsync}
 use Rattle.sync_step.specs.declared.Event.{Event}
 use Rattle.sync_step.specs.declared.Event.the-variants.{Nothing, Head, Period, Lost}
 use Rattle.sync_step.specs.declared.Events.{Events}
-use Rattle.sync_step.specs.declared.Run.{Run}
 use Rattle.sync_step.specs.Events.{noEvents}
 use Rattle.sync_step.specs.Ranges.{RunOk}
 use Rattle.sync_step.specs.Step.{stepOf}

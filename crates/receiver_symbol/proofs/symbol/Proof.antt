@@ -1,8 +1,7 @@
 -- `receiver_symbol::symbol` meets its contract. Assumes nothing.
 use Rattle.receiver_symbol.proofs.Ready.{ahead-ok, soon-known}
 use Rattle.receiver_symbol.proofs.Symbols.{acc-later, answer-later, answer-soon, lent-soon, soft-later, store-later}
-use Rattle.receiver_symbol.specs.Parts.{Soon, aheadBy}
-use Rattle.sync_step.specs.Step.{placeOf}
+use Rattle.receiver_symbol.specs.Parts.{Soon}
 use Rattle.receiver.specs.Symbol.{Input, Lent}
 use borrow.Author.Needs.{needs}
 use denote.Ref.{now}

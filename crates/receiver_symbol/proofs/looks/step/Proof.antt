@@ -3,7 +3,6 @@ use Rattle.receiver_symbol.proofs.Events.{step-ok}
 use Rattle.receiver_symbol.specs.Parts.{EventsOk}
 use Rattle.sync_corr.proofs.Laws.{dots-both, rows-unit}
 use Rattle.sync_heads.specs.Ready.{Smalls}
-use Rattle.sync_step.specs.Step.{stepOf}
 use Rattle.sync_step.specs.declared.Step.{Step}
 use borrow.Author.Needs.{needs}
 use denote.Ref.{now}
