@@ -1,44 +1,24 @@
--- A turn of each loop over an array, and its end; and what an accepted load tells. Assumes nothing.
+-- Points with zeros behind them, and what an accepted load tells. Assumes nothing.
 use Prim.Native.Nat.{ℕ, suc, _+_, _-_, _*_, _^_, _≤_, _<_}
-use mathlib.Core.Bool.{Bool, true, false, not, _&&_, _||_}
+use mathlib.Core.Bool.{Bool, true, false, not, _||_}
 use mathlib.Core.List.{List, _∷_, [], _++_, append-assoc}
-use mathlib.Core.Path.{_≡_, refl, sym, ap, _∙_}
+use mathlib.Core.Path.{_≡_, refl, sym, _∙_}
 use native.Mathlib.Numerals.{add-one}
 use native.Mathlib.Omega.{arith}
-use borrow.Author.Tests.{eqb-true, eqb-false, ltb-false}
-use lib.Dec.{eqb, leb, ltb}
+use borrow.Author.Tests.{eqb-true, ltb-false}
+use lib.Dec.{eqb, ltb}
 use lib.IntN.{ℤ, pos, negsuc, natAbs}
-use lib.ListN.{drop, getD, length, replicate, set, take}
+use lib.ListN.{getD, length, replicate, set, take}
 use lib.Pow.{pow-mono}
-use lib.Seq.{drop-cons, drop-length, length-take-le, set-at, take-length, take-suc}
+use lib.Seq.{length-take-le, set-at, take-length, take-suc}
 use Rattle.laws.specs.Choice.{if_then_else_, if-yes, if-no}
 use lib.Signed.{ltZ}
 use Rattle.laws.proofs.Size.{pos-abs}
 use Rattle.laws.proofs.Tests.{by-test, neither, never}
 use Rattle.demap.specs.Answers.{badPoints, badScale}
-use Rattle.eq_train.proofs.Tested.{and-assoc, and-true}
-use Rattle.carrier.specs.declared.Nco.{Nco}
-use Rattle.carrier.specs.Carrier.{advancedNco}
-use Rattle.carrier.specs.Ranges.{NcoOk}
-use Rattle.frame.specs.declared.Back.{Back}
-use Rattle.phase.specs.declared.SlotPhase.{SlotPhase}
-use Rattle.receiver.specs.declared.Ahead.{Ahead}
 use Rattle.receiver.specs.declared.Receiver.{Receiver}
-use Rattle.receiver.specs.Parts.{leftBy, phaseBy}
-use Rattle.receiver.specs.Started.{keptOf}
 use Rattle.receiver.specs.Answers.{pointsRefusal}
-use Rattle.receiver.specs.Ranges.{allWithin, receiverInRange}
-
--- ---- each number of an array within a size
-pub all-next : (b : ℕ) (l : List ℤ) (k : ℕ) (all t : Bool) → k < length l → t ≡ leb (natAbs (getD l k (pos 0))) b →
-    ((all && t) && allWithin b (drop (k + 1) l)) ≡ (all && allWithin b (drop k l))
-unfolding allWithin
-all-next b l k all t h e =
-    and-assoc all t (allWithin b (drop (k + 1) l)) ∙ ap (λ (x : Bool). all && x) (rw (e, add-one k) (ap (allWithin b) (sym (drop-cons l k (pos 0) h))))
-
-pub all-end : (b : ℕ) (l : List ℤ) (all : Bool) → (all && allWithin b (drop (length l) l)) ≡ all
-unfolding allWithin
-all-end b l all = rw (drop-length l) (and-true all)
+use Rattle.receiver.specs.Ranges.{receiverInRange}
 
 -- ---- points with zeros behind them
 pub filled-next : (l : List ℤ) (k : ℕ) → k < length l → length l ≤ 64 →
@@ -82,14 +62,3 @@ points-taken r bits len k h =
     let m = eqb-true len (2 * 2 ^ bits) (not-false (eqb len (2 * 2 ^ bits)) (q .1)) in
     let s = neither (ltZ k (pos 0)) (ltZ (pos (2 ^ 24)) k) b in
     (omega (arith, m, few bits (ltb-false 5 bits (q .0))), pos-abs k (s .0), most k (s .0) (s .1))))
-
--- ---- the carrier's range is the trail's, which a symbol leaves
-pub advanced-ok : (n : Nco) → NcoOk n → NcoOk (advancedNco n)
-unfolding advancedNco
-advanced-ok n o = record { trail = o .trail }
-
--- ---- what is kept over a loss does not depend on the slot phase
-pub kept-left : (r : Receiver) (a : Ahead) (b : Back) (p : SlotPhase) →
-    keptOf (leftBy r a b p) ≡ keptOf (leftBy r a b (phaseBy (r .front .sync .run .t) p))
-unfolding keptOf leftBy
-kept-left r a b p = refl

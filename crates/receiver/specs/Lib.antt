@@ -4,5 +4,4 @@ pub mod Heads
 pub mod Symbol
 pub mod Ranges
 pub mod Answers
-pub mod Parts
 pub mod Feed

@@ -1,11 +1,7 @@
 // The receiver: the stages wired as document 01, "The receiver", says. What each call means stands in specs/.
-mod after;
-mod heads;
 mod loads;
-mod looks;
-mod ranges;
+pub mod ranged;
 mod refusals;
-mod slots;
 mod starts;
 
 use carrier::Nco;
@@ -19,9 +15,8 @@ use sums::Sums;
 use sync::SlotSync;
 use sync_heads::Record;
 use sync_step::Events;
-use sync_step::Step;
 ghost use mathlib.Core.Path.{_≡_};
-ghost use Rattle.receiver.specs.Answers.{newAnswer, newAcc, symbolAnswer, symbolLent, pointsAnswer, tapsAnswer, openAnswer, endAnswer, restartAnswer, restartAcc};
+ghost use Rattle.receiver.specs.Answers.{newAnswer, newAcc, pointsAnswer, tapsAnswer, openAnswer, endAnswer, restartAnswer, restartAcc};
 
 // What a loss or a restart keeps.
 pub struct Kept {
@@ -54,13 +49,6 @@ pub struct Listened {
     pub due: Due,
 }
 
-// What a symbol comes to before anything is written: its window, the step of the slot sync, and what carrier and slot phase hear.
-pub struct Ahead {
-    pub win: [i16; 48],
-    pub step: Step,
-    pub heard: Listened,
-}
-
 // What a symbol answers.
 pub struct Answer {
     pub refusal: u8,
@@ -87,7 +75,7 @@ pub struct Ended {
 pub fn new(at: u64, step: i32, acc: &mut [u32]) -> Answered
     ensures { λ r. ⌜ (r ≡ newAnswer at step (now (acc .entry))) × (now (acc .exit) ≡ newAcc (now (acc .entry))) ⌝ }
 {
-    let r = starts::started(at, starts::new_kept(step));
+    let r = ranged::started(at, starts::new_kept(step));
     if acc.len() == 9296 {
         sync::ranged::clear(acc);
         Answered {
@@ -99,31 +87,6 @@ pub fn new(at: u64, step: i32, acc: &mut [u32]) -> Answered
             refusal: 1,
             receiver: r,
         }
-    }
-}
-
-// One symbol, with the words and the carrier table.
-pub fn symbol(
-    r: Receiver,
-    xi: i8,
-    xq: i8,
-    f: [i8; 48],
-    s: [i8; 48],
-    table: &[i16],
-    acc: &mut [u32],
-    store: &mut [i16],
-    soft: &mut [i8],
-) -> Answer
-    ensures { λ a. ⌜ (a ≡ symbolAnswer r (record { xi = xi; xq = xq; f = f; s = s; table = now (table .entry) }) (record { acc = now (acc .entry); store = now (store .entry); soft = now (soft .entry) })) × (now (acc .exit) ≡ symbolLent r (record { xi = xi; xq = xq; f = f; s = s; table = now (table .entry) }) (record { acc = now (acc .entry); store = now (store .entry); soft = now (soft .entry) }) .acc) × (now (store .exit) ≡ symbolLent r (record { xi = xi; xq = xq; f = f; s = s; table = now (table .entry) }) (record { acc = now (acc .entry); store = now (store .entry); soft = now (soft .entry) }) .store) × (now (soft .exit) ≡ symbolLent r (record { xi = xi; xq = xq; f = f; s = s; table = now (table .entry) }) (record { acc = now (acc .entry); store = now (store .entry); soft = now (soft .entry) }) .soft) ⌝ }
-{
-    let n = refusals::soon(r, acc.len(), store.len(), soft.len(), &f, &s, table.len());
-    if n == 0 {
-        let y = r.front.sync.run;
-        let p = sync_step::ranged::place(y.t);
-        let a = looks::look(r, xi, xq, &f, &s, table, acc[p]);
-        slots::go_on(r, a, p, &f, &s, table, acc, store, soft)
-    } else {
-        refusals::refused(n, r)
     }
 }
 
@@ -162,7 +125,7 @@ pub fn restart(r: Receiver, at: u64, acc: &mut [u32]) -> Answered
         sync::ranged::clear(acc);
         Answered {
             refusal: 0,
-            receiver: starts::started(at, starts::kept_of(r)),
+            receiver: ranged::started(at, ranged::kept_of(r)),
         }
     } else {
         Answered {
@@ -185,7 +148,7 @@ pub fn end_sums(r: Receiver) -> Ended
     ensures { λ a. ⌜ a ≡ endAnswer r ⌝ }
 {
     let none = sums::new(0);
-    if ranges::receiver_within(r) {
+    if ranged::receiver_within(r) {
         let e = r.back.eq;
         let opened = e.opened;
         let s = e.sums;

@@ -45,7 +45,8 @@ use Rattle.frame_line.specs.declared.Meta.{Meta}
 use Rattle.frame.specs.declared.Back.{Back}
 use Rattle.receiver_slot.specs.declared.Points.{Points}
 use Rattle.receiver.specs.declared.Receiver.{Receiver}
-use Rattle.receiver.specs.Ranges.{within, allWithin, corrWithin, firstWithin, stageWithin, tallyWithin, runWithin, headWithin, heldWithin, phaseWithin, sumsWithin, eqWithin, metaWithin, metasWithin, lastWithin, backWithin, pointsWithin, frontWithin, receiverInRange}
+use Rattle.receiver_bounds.specs.Bounds.{within, allWithin, corrWithin, firstWithin, stageWithin, tallyWithin, runWithin, headWithin, heldWithin, phaseWithin, sumsWithin, eqWithin, metaWithin, metasWithin, lastWithin, backWithin, pointsWithin}
+use Rattle.receiver.specs.Ranges.{frontWithin, receiverInRange}
 use Rattle.receiver_range.specs.Coherent.{HeadFits, HeldFits, PhaseFits, Untouched, Waits, Adjoins, BackFits, rightMost, RightFits, PointsFit, CoherentReceiver}
 
 -- ---- tests

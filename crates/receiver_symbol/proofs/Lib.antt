@@ -1,0 +1,5 @@
+pub mod Laws
+pub mod Events
+pub mod Hearing
+pub mod Ready
+pub mod Symbols

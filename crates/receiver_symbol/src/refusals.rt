@@ -1,0 +1,77 @@
+// 0, or why a symbol is refused, as far as that is known without its slot: in the order of document 01's table.
+use receiver::Answer;
+use receiver::Receiver;
+use receiver_slot::AlignedRun;
+use receiver_slot::Runs;
+use sync_step::Event;
+use sync_step::Events;
+ghost use mathlib.Core.Path.{_≡_};
+ghost use Rattle.receiver.specs.Answers.{noRuns};
+ghost use Rattle.receiver_symbol.specs.Parts.{stateRefusal, soonRefusal, refusedBy};
+
+// A symbol by the state alone.
+fn in_state(r: Receiver) -> u8
+    ensures { λ n. ⌜ n ≡ stateRefusal r ⌝ }
+{
+    if receiver::ranged::receiver_within(r) {
+        let y = r.front.sync.run;
+        let past = sync::ranged::past_end(y.base, y.t);
+        if past { 7 } else { 0 }
+    } else {
+        6
+    }
+}
+
+// A symbol, as far as that is known without its slot.
+pub(crate) fn soon(
+    r: Receiver,
+    acc: usize,
+    store: usize,
+    soft: usize,
+    f: &[i8; 48],
+    s: &[i8; 48],
+    table: usize,
+) -> u8
+    ensures { λ n. ⌜ n ≡ soonRefusal r acc store soft (now (f .entry)) (now (s .entry)) table ⌝ }
+{
+    if (acc == 9296) & (store == 18592) & (44880 <= soft) {
+        if sync_corr::ranged::ones(f) & sync_corr::ranged::ones(s) {
+            if table == 1024 { in_state(r) } else { 3 }
+        } else {
+            2
+        }
+    } else {
+        1
+    }
+}
+
+// The state as it was handed in, and nothing told.
+pub(crate) fn refused(n: u8, r: Receiver) -> Answer
+    ensures { λ a. ⌜ a ≡ refusedBy n r ⌝ }
+{
+    Answer {
+        refusal: n,
+        receiver: r,
+        events: Events {
+            first: Event::Nothing,
+            second: Event::Nothing,
+            third: Event::Nothing,
+        },
+        runs: no_runs(),
+    }
+}
+
+pub(crate) fn no_runs() -> Runs
+    ensures { λ r. ⌜ r ≡ noRuns ⌝ }
+{
+    let none = AlignedRun {
+        at: 0,
+        j: 0,
+        count: 0,
+        bits: 0,
+    };
+    Runs {
+        tail: none,
+        body: none,
+    }
+}
