@@ -21,7 +21,7 @@ trace() {
     "$out/traces"
 }
 
-cp "$here/src/receiver/traces_head.antt" "$made/Traces.antt"
+cp "$here/src/receiver/traces_head.txt" "$made/Traces.antt"
 for slot in 64 24 3; do
     trace "$slot" >>"$made/Traces.antt"
 done
