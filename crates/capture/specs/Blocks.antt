@@ -46,12 +46,12 @@ joined [] = []
 joined (b ∷ bs) = b ++ joined bs
 
 -- no symbol is cut but by the input's end
-pub EvenBut : List (List ℕ) → Type 0
+abbrev pub EvenBut : List (List ℕ) → Type 0
 EvenBut [] = Unit {0}
 EvenBut (b ∷ []) = Unit {0}
 EvenBut (b ∷ c ∷ bs) = (length b % 2 ≡ 0) × EvenBut (c ∷ bs)
 
 -- the first block reaches the symbols, whatever is declared, or is all there is
-pub Reaches : List ℕ → List (List ℕ) → Type 0
+abbrev pub Reaches : List ℕ → List (List ℕ) → Type 0
 Reaches b [] = Unit {0}
 Reaches b (c ∷ bs) = 2310 ≤ length b
