@@ -3,3 +3,4 @@ pub mod Laws
 pub mod Prefix
 pub mod Shares
 pub mod Theorems
+pub mod Worked

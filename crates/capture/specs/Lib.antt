@@ -5,3 +5,4 @@ pub mod Bodies
 pub mod Capture
 pub mod Blocks
 pub mod Claims
+pub mod Worked
