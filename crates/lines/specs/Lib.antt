@@ -2,3 +2,4 @@
 pub mod Decimal
 pub mod Place
 pub mod Lines
+pub mod Worked
