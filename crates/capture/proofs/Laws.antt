@@ -1,25 +1,25 @@
 -- Laws of the definitions of capture. Assumes nothing.
 use mathlib.Core.Bool.{Bool, true, false, _&&_, _||_}
-use mathlib.Core.List.{List, [], _∷_, _++_, map, map-append}
+use mathlib.Core.List.{List, [], _∷_, map-append}
 use mathlib.Core.Path.{_≡_, refl, sym, ap, _∙_}
 use Prim.Native.Nat.{ℕ, zero, suc, _+_, _-_, _*_, _%_, _^_, _≤_, _<_}
 use native.Mathlib.Omega.{arith}
-use borrow.Author.Tests.{ltb-true, ltb-false, leb-true, eqb-true, le-leb}
+use borrow.Author.Tests.{ltb-true, ltb-false, leb-true, eqb-true}
 use lib.Dec.{ltb, leb, eqb}
-use lib.IntN.{ℤ, pos, negsuc, _-ℤ_}
+use lib.IntN.{pos, negsuc, _-ℤ_}
 use lib.ListN.{length, getD, take, drop, replicate, length-replicate, replicate-append-replicate}
 use lib.Pow.{pow-mono}
 use lib.Seq.{take-suc, drop-at}
 use lib.Signed.{mag}
-use Rattle.laws.proofs.Linear.{up, dn, dif-ud, eq-ud}
-use Rattle.laws.proofs.Tests.{by-test, and-both, never}
+use Rattle.laws.proofs.Linear.{dif-ud, eq-ud}
+use Rattle.laws.proofs.Tests.{by-test, and-both}
 use Rattle.laws.specs.Choice.{if_then_else_, if-yes, if-no}
 use Rattle.laws.specs.Ranges.{firsts}
 use Rattle.wire.proofs.Laws.{signed-pos, signed-neg}
 use Rattle.wire.specs.Wire.{signed}
 use Rattle.capture.specs.Bytes.{signedByte, byteAt, signedBytes}
 use Rattle.capture.specs.Contents.{kindFits, lengthFits, lengthOf, entryFits, contentsFit, contentsOf}
-use Rattle.capture.specs.Bodies.{wordsFit, bitsOf, scaleOf, pointsFit, pointsRefusal, bodiesRefusal, headerRefusal, answerRefusal}
+use Rattle.capture.specs.Bodies.{wordsFit, bitsOf, pointsFit, pointsRefusal, bodiesRefusal, headerRefusal, answerRefusal}
 
 -- ---- signed numbers
 pub mag-signed : (half u : ℕ) → u < 2 * half → mag (signed half u) < half

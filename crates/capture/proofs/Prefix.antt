@@ -1,21 +1,18 @@
 -- The first 2,310 bytes tell all that stands before the symbols. Assumes nothing.
-use mathlib.Core.Bool.{true, false}
+use mathlib.Core.Bool.{false}
 use mathlib.Core.List.{List, _++_}
-use mathlib.Core.Path.{_≡_, refl, sym, ap, _∙_}
+use mathlib.Core.Path.{_≡_, refl}
 use Prim.Native.Nat.{ℕ, _+_, _-_, _*_, _^_, _≤_, _<_}
 use native.Mathlib.Omega.{arith}
 use borrow.Author.Tests.{le-leb, le-ltb, eqb-true}
-use lib.Dec.{ltb, leb, eqb}
-use lib.IntN.{ℤ}
+use lib.Dec.{ltb, eqb}
 use lib.ListN.{length, getD, length-append, List·getD-append}
 use Rattle.laws.proofs.Lists.{firsts-ext}
-use Rattle.laws.proofs.Tests.{by-test, if-cong}
-use Rattle.laws.specs.Choice.{if_then_else_, if-yes, if-no}
-use Rattle.laws.specs.Ranges.{firsts}
+use Rattle.laws.proofs.Tests.{if-cong}
 use Rattle.capture.specs.Bytes.{numberAt, shortAt, byteAt}
-use Rattle.capture.specs.Contents.{lengthFits, lengthOf, entryFits, contentsFit}
-use Rattle.capture.specs.Bodies.{wordFrom, fWord, sWord, wordsFit, tableOf, bitsOf, pointsFrom, pointsOf, scaleOf, pointsFit, pointsRefusal, bodiesRefusal, headerRefusal, padded, acceptedHeading, refusedHeading, headerOf}
-use Rattle.capture.proofs.Laws.{Listable, fitting, Fits, fits, Whole, header-whole}
+use Rattle.capture.specs.Contents.{lengthOf, entryFits, contentsFit}
+use Rattle.capture.specs.Bodies.{wordFrom, fWord, sWord, wordsFit, tableOf, bitsOf, pointsFrom, pointsOf, scaleOf, pointsRefusal, bodiesRefusal, headerRefusal, acceptedHeading, headerOf}
+use Rattle.capture.proofs.Laws.{Listable, fitting, fits, header-whole}
 
 module _ (b m : List ℕ) (h : 2310 ≤ length b) where
   abbrev s : List ℕ

@@ -1,17 +1,17 @@
 -- The symbols of blocks are those of the bytes that the blocks hold. Assumes nothing.
-use mathlib.Core.Bool.{Bool, true, false}
+use mathlib.Core.Bool.{true, false}
 use mathlib.Core.List.{List, [], _∷_, _++_, append-nil, map-append}
-use mathlib.Core.Logic.{_⊎_, inl, inr, ⊎-elim}
+use mathlib.Core.Logic.{_⊎_, inl, inr}
 use mathlib.Core.Path.{_≡_, refl, sym, ap, ap₂, _∙_}
-use Prim.Native.Nat.{ℕ, _+_, _-_, _*_, _/_, _%_, _≤_, _<_, min}
+use Prim.Native.Nat.{ℕ, _+_, _-_, _%_, _≤_, _<_, min}
 use native.Mathlib.Omega.{arith}
 use borrow.Author.Tests.{ltb-true, ltb-false, eqb-true, eqb-false, eq-eqb, ne-eqb}
 use lib.Dec.{ltb, eqb}
 use lib.IntN.{ℤ}
-use lib.ListN.{length, take, drop, length-append}
+use lib.ListN.{length, take, length-append}
 use lib.Seq.{take-append-le, take-append-add, take-all, take-nil}
 use Rattle.laws.proofs.Tests.{by-test}
-use Rattle.laws.specs.Choice.{if_then_else_, if-yes, if-no}
+use Rattle.laws.specs.Choice.{if-yes, if-no}
 use Rattle.capture.specs.Bytes.{signedByte, signedBytes}
 use Rattle.capture.specs.Capture.{whole, actingOf, endsOf}
 use Rattle.capture.specs.Blocks.{sharedOf, playedOf, endedOf, joined, EvenBut}

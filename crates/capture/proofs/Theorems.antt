@@ -1,22 +1,23 @@
 -- What specs/Claims.antt claims. Assumes nothing.
-use mathlib.Core.Bool.{true, false}
+use mathlib.Core.Bool.{true}
 use mathlib.Core.List.{List, [], _∷_, _++_, append-nil}
 use mathlib.Core.Path.{_≡_, refl, sym, ap, ap₂, subst, _∙_}
-use Prim.Native.Nat.{ℕ, _+_, _-_, _%_, _≤_}
+use Prim.Native.Nat.{ℕ, _+_, _*_, _^_, _-_, _%_, _≤_}
 use native.Mathlib.Omega.{arith}
-use borrow.Author.Tests.{eqb-true}
+use borrow.Author.Tests.{eqb-true, eq-eqb, ne-eqb}
 use lib.Dec.{eqb}
 use lib.IntN.{ℤ}
 use lib.ListN.{length, drop, length-drop}
-use lib.Seq.{drop-append-le}
+use lib.Seq.{drop-append-le, take-at}
+use Rattle.laws.proofs.Lists.{length-firsts}
 use Rattle.laws.proofs.Tests.{by-test, if-cong, never}
 use Rattle.laws.specs.Choice.{if-yes, if-no}
 use Rattle.capture.specs.declared.Heading.{Heading}
-use Rattle.capture.specs.Contents.{lengthOf}
-use Rattle.capture.specs.Bodies.{tableOf, headerRefusal, acceptedHeading, refusedHeading, headerOf}
-use Rattle.capture.specs.Capture.{actingOf, endsOf, loadedCapture, captureOf}
+use Rattle.capture.specs.Bytes.{shortAt}
+use Rattle.capture.specs.Bodies.{tableOf, bitsOf, pointsFrom, pointsOf, padded, headerRefusal, acceptedHeading, refusedHeading, headerOf, answerRefusal, headerAnswer, headerTable}
+use Rattle.capture.specs.Capture.{headingPoints, actingOf, endsOf, loadedCapture, captureOf}
 use Rattle.capture.specs.Blocks.{playedOf, endedOf, blockwise, joined, EvenBut, Reaches}
-use Rattle.capture.specs.Claims.{HeaderKept, BlocksTell}
+use Rattle.capture.specs.Claims.{AnswerIs, PointsTold, HeaderKept, BlocksTell}
 use Rattle.capture.proofs.Laws.{fitting, header-whole}
 use Rattle.capture.proofs.Prefix.{header-kept, table-kept}
 use Rattle.capture.proofs.Shares.{tells}
@@ -72,3 +73,33 @@ blocks-tell b bs r v =
     let k = kept b bs r in
     rw (k .0, k .1)
     (if-cong (eqb (headerOf b .refusal) 0) _ _ _ _ (λ t. played b bs (headerOf b) (starts b t) v) (λ t. refl))
+
+-- ---- the entry's answer
+header-refusal : (s : List ℕ) → headerOf s .refusal ≡ headerRefusal s
+unfolding headerOf acceptedHeading refusedHeading
+header-refusal s =
+    by-test (eqb (headerRefusal s) 0)
+    (λ t. ap (λ (h : Heading). h .refusal) (if-yes _ _ _ t) ∙ sym (eqb-true (headerRefusal s) 0 t))
+    (λ t. ap (λ (h : Heading). h .refusal) (if-no _ _ _ t))
+
+room-is : (n : ℕ) (s : List ℕ) → n ≡ 1024 → answerRefusal n s ≡ headerRefusal s
+unfolding answerRefusal
+room-is n s e = if-yes _ _ _ (eq-eqb n 1024 e)
+
+pub answer-is : AnswerIs
+unfolding headerAnswer headerTable headerOf
+answer-is s t e =
+    let r = room-is (length t) s e in
+    let h = header-refusal s in (
+      rw r,
+      (λ z. if-yes _ _ _ (eq-eqb (answerRefusal (length t) s) 0 (r ∙ sym h ∙ z))),
+      λ z. if-no _ _ _ (ne-eqb (answerRefusal (length t) s) 0 (λ q. z (h ∙ sym r ∙ q))),
+    )
+
+accepted-points : (s : List ℕ) → headingPoints (acceptedHeading s) ≡ pointsOf s
+unfolding headingPoints acceptedHeading padded pointsOf pointsFrom
+accepted-points s = take-at (pointsOf s) _ (2 * 2 ^ bitsOf s) (length-firsts (λ (i : ℕ). shortAt s (2178 + 2 * i)) (2 * 2 ^ bitsOf s))
+
+pub points-told : PointsTold
+unfolding headerOf
+points-told s z = ap headingPoints (if-yes _ _ _ (eq-eqb (headerRefusal s) 0 (sym (header-refusal s) ∙ z))) ∙ accepted-points s

@@ -2,10 +2,21 @@
 use Prim.Native.Nat.{ℕ, _≤_}
 use mathlib.Core.List.{List, _∷_, _++_}
 use mathlib.Core.Path.{_≡_}
+use lib.IntN.{ℤ}
 use lib.ListN.{length}
-use Rattle.capture.specs.Bodies.{tableOf, headerOf}
-use Rattle.capture.specs.Capture.{captureOf}
+use Rattle.capture.specs.Bodies.{tableOf, pointsOf, headerOf, headerAnswer, headerTable}
+use Rattle.capture.specs.Capture.{headingPoints, captureOf}
 use Rattle.capture.specs.Blocks.{blockwise, joined, EvenBut, Reaches}
+
+-- an entry that is lent a table of 1,024 answers the header itself, and the table unless it is refused
+abbrev pub AnswerIs : Type 0
+AnswerIs =
+    (s : List ℕ) (t : List ℤ) → length t ≡ 1024 →
+    (headerAnswer (length t) s ≡ headerOf s) × (headerOf s .refusal ≡ 0 → headerTable t s ≡ tableOf s) × ((headerOf s .refusal ≡ 0 → ⊥) → headerTable t s ≡ t)
+
+-- the points of an accepted heading, without the zeros behind, are those of the file
+abbrev pub PointsTold : Type 0
+PointsTold = (s : List ℕ) → headerOf s .refusal ≡ 0 → headingPoints (headerOf s) ≡ pointsOf s
 
 -- 2,310 bytes tell all that stands before the symbols
 abbrev pub HeaderKept : Type 0

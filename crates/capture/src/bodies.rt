@@ -36,6 +36,7 @@ fn word(bytes: &[u8], k: usize) -> [i8; 48]
     w
 }
 
+// Every entry of both words is 1 or -1.
 fn words_fit(bytes: &[u8]) -> bool
     requires { ⌜ 129 ≤ length (now bytes) ⌝ }
     ensures { λ r. ⌜ r ≡ wordsFit (now (bytes .entry)) ⌝ }
@@ -47,6 +48,7 @@ fn words_fit(bytes: &[u8]) -> bool
     a & b
 }
 
+// The carrier table.
 pub(crate) fn table(bytes: &[u8], out: &mut [i16])
     requires { ⌜ (2177 ≤ length (now bytes)) × (length (now out) ≡ 1024) ⌝ }
     ensures { λ r. ⌜ now (out .exit) ≡ tableOf (now (bytes .entry)) ⌝ }
@@ -71,6 +73,7 @@ fn points_fit(bits: u8, p: u32) -> bool
     }
 }
 
+// The first fault of table and points, or 0. p is the declared length of the points.
 fn points_refusal(bytes: &[u8], p: u32) -> u8
     requires { ⌜ 13 ≤ p ⌝ }
     ensures { λ r. ⌜ r ≡ pointsRefusal (now (bytes .entry)) p ⌝ }
@@ -90,6 +93,7 @@ fn points_refusal(bytes: &[u8], p: u32) -> u8
     }
 }
 
+// .. of words, table and points.
 pub(crate) fn refusal(bytes: &[u8], p: u32) -> u8
     requires { ⌜ 13 ≤ p ⌝ }
     ensures { λ r. ⌜ r ≡ bodiesRefusal (now (bytes .entry)) p ⌝ }
@@ -117,6 +121,7 @@ fn points(bytes: &[u8], n: usize) -> [i16; 64]
     t
 }
 
+// What a header with no fault tells.
 pub(crate) fn accepted(bytes: &[u8], p: u32, symbols: u32) -> Heading
     requires { ⌜ (2177 + p ≤ length (now bytes)) × (pointsFit (bitsOf (now bytes)) p ≡ true) × (p ≡ lengthOf (now bytes) 2) × (symbols ≡ lengthOf (now bytes) 3) ⌝ }
     ensures { λ r. ⌜ r ≡ acceptedHeading (now (bytes .entry)) ⌝ }

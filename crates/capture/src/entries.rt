@@ -5,7 +5,7 @@ ghost use Prim.Native.Nat.{_+_, _*_, _≤_, _<_};
 ghost use lib.ListN.{length};
 ghost use Rattle.capture.specs.Contents.{kindFits, lengthFits, entryOf};
 
-// If the body length is one that the entry may declare, and the length.
+// If the entry is as it should be, and its body's length.
 pub struct Listed {
     pub fits: bool,
     pub length: u32,
@@ -19,6 +19,7 @@ fn kind_fits(n: u8, a: u8, b: u8, c: u8, d: u8) -> bool
     (a == n + 1) & (b == 0) & (c == 0) & (d == 0)
 }
 
+// The body length is one that entry n may declare.
 fn length_fits(n: u8, l: u32) -> bool
     ensures { λ r. ⌜ r ≡ lengthFits n l ⌝ }
 {
@@ -33,6 +34,7 @@ fn length_fits(n: u8, l: u32) -> bool
     }
 }
 
+// Entry n, from 0.
 pub(crate) fn entry(bytes: &[u8], n: u8) -> Listed
     requires { ⌜ (n < 4) × (33 ≤ length (now bytes)) ⌝ }
     ensures { λ r. ⌜ r ≡ entryOf (now (bytes .entry)) n ⌝ }

@@ -38,6 +38,7 @@ pub struct Shared {
     pub over: bool,
 }
 
+// The contents: 33 bytes.
 pub fn contents(bytes: &[u8]) -> Lengths
     ensures { λ r. ⌜ r ≡ contentsOf (now (bytes .entry)) ⌝ }
 {

@@ -12,6 +12,7 @@ fn four(a: u8, b: u8, c: u8, d: u8) -> u32
     (a as u32) + 256 * (b as u32) + 65536 * (c as u32) + 16777216 * (d as u32)
 }
 
+// The number of the four bytes from k on.
 pub(crate) fn number(bytes: &[u8], k: usize) -> u32
     requires { ⌜ k + 4 ≤ length (now bytes) ⌝ }
     ensures { λ r. ⌜ r ≡ numberAt (now (bytes .entry)) k ⌝ }
@@ -27,6 +28,7 @@ fn two(low: u8, high: u8) -> i16
     (((u + 0x8000) % 0x1_0000) as i32 - 0x8000) as i16
 }
 
+// The signed number of the two bytes from k on.
 pub(crate) fn short(bytes: &[u8], k: usize) -> i16
     requires { ⌜ k + 2 ≤ length (now bytes) ⌝ }
     ensures { λ r. ⌜ r ≡ shortAt (now (bytes .entry)) k ⌝ }
@@ -41,6 +43,7 @@ pub(crate) fn signed_byte(b: u8) -> i8
     ((((b as u16) + 128) % 256) as i16 - 128) as i8
 }
 
+// The lesser of two.
 pub(crate) fn lesser(a: usize, b: usize) -> usize
     ensures { λ r. ⌜ r ≡ min a b ⌝ }
 {

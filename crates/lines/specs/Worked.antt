@@ -1,10 +1,9 @@
 -- Lines in small, each beside its ASCII codes.
 use Prim.Native.Nat.{ℕ, _-_, _^_}
 use mathlib.Core.Bool.{true, false}
-use mathlib.Core.List.{List, [], _∷_, _++_}
+use mathlib.Core.List.{List, [], _∷_}
 use lib.IntN.{pos}
 use Rattle.laws.specs.Choice.{minus}
-use Rattle.sync_corr.specs.declared.Corr.{Corr}
 use Rattle.sync_heads.specs.declared.Head.{Head}
 use Rattle.sync_heads.specs.declared.Word.the-variants.{Ssync, NotFsync}
 use Rattle.sync_heads.specs.declared.Slot.{Slot}

@@ -14,16 +14,19 @@ ghost use Rattle.lines.specs.Place.{Wrote, lineInto, lineEnd};
 ghost use Rattle.lines.specs.Lines.{bit as Lines·bit};
 ghost use Rattle.lines.specs.Lines.{periodLine, letterOf, slotText, headLine, lostLine, eventLine, softLine, softEnd, softInto, endLine, refusedLine};
 
+// LOCKED.
 fn bit(b: bool) -> u64
     ensures { λ r. ⌜ r ≡ Lines·bit b ⌝ }
 {
     if b { 1 } else { 0 }
 }
 
+// `period PEAK PEAKPOS SUM LOCKED`. Functions that write have the room that is asked for, and answer the place behind the line.
 fn period(out: &mut [u8], at: usize, p: SyncStats) -> usize
     requires { ⌜ at + 256 ≤ length (now out) ⌝ }
     ensures { λ r. ⌜ Wrote (now (out .entry)) at (periodLine p) (now (out .exit)) r ⌝ }
 {
+    // "period "
     let w: [u8; 7] = [112, 101, 114, 105, 111, 100, 32];
     let a = put::text(out, at, &w);
     let b = put::number_then(out, a, p.peak as u64, 32);
@@ -32,6 +35,7 @@ fn period(out: &mut [u8], at: usize, p: SyncStats) -> usize
     put::number_then(out, d, bit(p.locked), 10)
 }
 
+// S, F or N.
 fn letter(w: Word) -> u8
     ensures { λ r. ⌜ r ≡ letterOf w ⌝ }
 {
@@ -49,6 +53,7 @@ fn slot(out: &mut [u8], at: usize, s: Slot) -> usize
 {
     match s {
         Slot::Unknown => {
+            // "- -"
             let w: [u8; 4] = [45, 32, 45, 10];
             put::text(out, at, &w)
         }
@@ -59,10 +64,12 @@ fn slot(out: &mut [u8], at: usize, s: Slot) -> usize
     }
 }
 
+// `head AT WORD NUMBER FRAME`
 fn head(out: &mut [u8], at: usize, h: Head) -> usize
     requires { ⌜ at + 256 ≤ length (now out) ⌝ }
     ensures { λ r. ⌜ Wrote (now (out .entry)) at (headLine h) (now (out .exit)) r ⌝ }
 {
+    // "head "
     let w: [u8; 5] = [104, 101, 97, 100, 32];
     let a = put::text(out, at, &w);
     let b = put::number_then(out, a, h.at, 32);
@@ -73,28 +80,34 @@ fn head(out: &mut [u8], at: usize, h: Head) -> usize
     slot(out, c, s)
 }
 
+// `lost AT`
 fn lost(out: &mut [u8], at: usize, n: u64) -> usize
     requires { ⌜ at + 256 ≤ length (now out) ⌝ }
     ensures { λ r. ⌜ Wrote (now (out .entry)) at (lostLine n) (now (out .exit)) r ⌝ }
 {
+    // "lost "
     let w: [u8; 5] = [108, 111, 115, 116, 32];
     let a = put::text(out, at, &w);
     put::number_then(out, a, n, 10)
 }
 
+// `end SYMBOLS`
 fn ended(out: &mut [u8], at: usize, n: u64) -> usize
     requires { ⌜ at + 256 ≤ length (now out) ⌝ }
     ensures { λ r. ⌜ Wrote (now (out .entry)) at (endLine n) (now (out .exit)) r ⌝ }
 {
+    // "end "
     let w: [u8; 4] = [101, 110, 100, 32];
     let a = put::text(out, at, &w);
     put::number_then(out, a, n, 10)
 }
 
+// `refused NUMBER`
 fn refusal(out: &mut [u8], at: usize, n: u64) -> usize
     requires { ⌜ at + 256 ≤ length (now out) ⌝ }
     ensures { λ r. ⌜ Wrote (now (out .entry)) at (refusedLine n) (now (out .exit)) r ⌝ }
 {
+    // "refused "
     let w: [u8; 8] = [114, 101, 102, 117, 115, 101, 100, 32];
     let a = put::text(out, at, &w);
     put::number_then(out, a, n, 10)
@@ -134,6 +147,7 @@ pub fn event(e: Event, out: &mut [u8], at: usize) -> usize
     }
 }
 
+// The last line.
 pub fn end(symbols: u64, out: &mut [u8], at: usize) -> usize
     ensures { λ r. ⌜ (r ≡ lineEnd (endLine symbols) at (length (now (out .entry)))) × (now (out .exit) ≡ lineInto (endLine symbols) at (now (out .entry))) ⌝ }
 {
@@ -154,10 +168,12 @@ pub fn refused(n: u64, out: &mut [u8], at: usize) -> usize
     }
 }
 
+// `soft AT J` and the values.
 fn written(out: &mut [u8], place: usize, at: u64, j: u16, values: &[i8]) -> usize
     requires { ⌜ (place + 256 ≤ length (now out)) × (length (now values) ≤ 5) ⌝ }
     ensures { λ r. ⌜ Wrote (now (out .entry)) place (softLine at j (now (values .entry))) (now (out .exit)) r ⌝ }
 {
+    // "soft "
     let w: [u8; 5] = [115, 111, 102, 116, 32];
     let a = put::text(out, place, &w);
     let b = put::number_then(out, a, at, 32);

@@ -1,12 +1,11 @@
 -- `capture::contents` meets its contract. Assumes nothing.
 use borrow.Author.Needs.{needs}
-use Rattle.laws.specs.Choice.{cases}
 use Rattle.capture.specs.Contents.{entryOf, contentsFit, contentsOf}
-use mathlib.Core.Bool.{true, false}
+use mathlib.Core.Bool.{false}
 use mathlib.Core.Path.{_≡_, refl, sym, ap}
 use borrow.Author.Tests.{le-leb, lt-leb}
 use lib.ListN.{length}
-use Rattle.laws.specs.Choice.{if-yes, if-no}
+use Rattle.laws.specs.Choice.{if-no}
 use Rattle.capture.specs.declared.entries.Listed.{Listed}
 use mathlib.Core.Bool.{Bool, _&&_}
 use mathlib.Core.List.{List}

@@ -3,13 +3,12 @@ use borrow.Author.Needs.{needs}
 use mathlib.Core.Path.{_≡_, refl, sym, ap, _∙_}
 use lib.ListN.{length}
 use native.Mathlib.Omega.{arith}
-use borrow.Author.Needs.{needs}
 use borrow.Author.Tests.{eq-eqb, ne-eqb}
 use Rattle.laws.specs.Choice.{if-yes, if-no}
 use Rattle.capture.specs.declared.Lengths.{Lengths}
-use Rattle.capture.specs.Contents.{lengthOf, contentsFit, contentsOf}
-use Rattle.capture.specs.Bodies.{headerRefusal, answerRefusal, headerAnswer, headerTable, refusedHeading}
-use Rattle.capture.proofs.Laws.{header-whole, answer-room, contents-yes, Whole}
+use Rattle.capture.specs.Contents.{lengthOf}
+use Rattle.capture.specs.Bodies.{answerRefusal, headerAnswer, headerTable, refusedHeading}
+use Rattle.capture.proofs.Laws.{header-whole, answer-room, contents-yes}
 use Rattle.capture.proofs.header.Statement.{statement}
 use Rattle.capture.proofs.header.Tie as tie
 

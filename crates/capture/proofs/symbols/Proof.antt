@@ -1,15 +1,15 @@
 -- `capture::symbols` meets its contract. Assumes nothing.
 use borrow.Author.Needs.{needs}
 use mathlib.Core.List.{List, _++_}
-use mathlib.Core.Path.{_≡_, refl, sym, ap, _∙_}
+use mathlib.Core.Path.{_≡_, refl, ap, _∙_}
 use Prim.Native.Nat.{ℕ, _-_, _≤_, min}
 use native.Mathlib.Omega.{arith}
 use lib.IntN.{ℤ}
-use lib.ListN.{length, drop, take}
+use lib.ListN.{length, drop}
 use mir.Facts.{toZ-ofZ}
 use Rattle.laws.proofs.Lists.{firsts-step, length-fill}
 use Rattle.laws.specs.Ranges.{firsts}
-use Rattle.capture.specs.Bytes.{byteAt, signedBytes, signedInto}
+use Rattle.capture.specs.Bytes.{byteAt, signedInto}
 use Rattle.capture.proofs.Laws.{firsts-signed}
 use Rattle.capture.proofs.symbols.Statement.{statement}
 use Rattle.capture.proofs.symbols.Tie as tie

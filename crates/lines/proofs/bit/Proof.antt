@@ -1,5 +1,4 @@
 -- `lines::bit` meets its contract. Assumes nothing.
-use borrow.Author.Needs.{needs}
 use Rattle.lines.specs.Lines as text
 use Rattle.lines.proofs.bit.Statement.{statement}
 use Rattle.lines.proofs.bit.Tie as tie

@@ -1,13 +1,11 @@
 -- `capture::bodies::accepted` meets its contract. Assumes nothing.
 use borrow.Author.Needs.{needs}
-use mathlib.Core.List.{List}
 use mathlib.Core.Bool.{true}
-use mathlib.Core.Path.{_≡_, refl, sym, ap, _∙_}
-use Prim.Native.Nat.{ℕ, _+_, _*_, _/_, _-_, _^_, _≤_}
+use mathlib.Core.Path.{_≡_}
+use Prim.Native.Nat.{ℕ, _*_, _/_, _-_, _^_, _≤_}
 use native.Mathlib.Omega.{arith}
-use borrow.Author.Needs.{needs}
 use Rattle.capture.specs.Bodies.{fWord, sWord, bitsOf, pointsOf, pointsFit, scaleOf, acceptedHeading}
-use Rattle.capture.proofs.Laws.{Fits, fits}
+use Rattle.capture.proofs.Laws.{fits}
 use Rattle.capture.proofs.bodies.accepted.Statement.{statement}
 use Rattle.capture.proofs.bodies.accepted.Tie as tie
 

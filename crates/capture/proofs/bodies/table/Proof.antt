@@ -1,10 +1,10 @@
 -- `capture::bodies::table` meets its contract. Assumes nothing.
 use borrow.Author.Needs.{needs}
 use mathlib.Core.List.{[], _++_, append-nil}
-use mathlib.Core.Path.{_≡_, refl, sym, ap, _∙_}
+use mathlib.Core.Path.{_≡_, refl, _∙_}
 use Prim.Native.Nat.{ℕ, _+_, _*_, _-_, _≤_}
 use native.Mathlib.Omega.{arith}
-use lib.ListN.{length, drop, drop-of-length-le}
+use lib.ListN.{drop, drop-of-length-le}
 use mir.Facts.{toZ-ofZ}
 use Rattle.laws.proofs.Lists.{firsts-step, length-fill}
 use Rattle.laws.specs.Ranges.{firsts}

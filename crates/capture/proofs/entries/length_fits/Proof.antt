@@ -1,5 +1,4 @@
 -- `capture::entries::length_fits` meets its contract. Assumes nothing.
-use borrow.Author.Needs.{needs}
 use Rattle.laws.specs.Choice.{cases}
 use Rattle.capture.specs.Contents.{lengthFits}
 use Rattle.capture.proofs.entries.length_fits.Statement.{statement}

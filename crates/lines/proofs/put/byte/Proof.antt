@@ -1,11 +1,9 @@
 -- `lines::put::byte` meets its contract. Assumes nothing.
 use borrow.Author.Needs.{needs}
-use mathlib.Core.List.{_∷_, []}
-use mathlib.Core.Path.{_≡_, refl, sym, ap, _∙_}
+use mathlib.Core.Path.{refl}
 use lib.ListN.{length-set}
 use native.Mathlib.Omega.{arith}
-use Rattle.lines.specs.Place.{Wrote}
-use Rattle.lines.proofs.Laws.{one-written, length-written}
+use Rattle.lines.proofs.Laws.{one-written}
 use Rattle.lines.proofs.put.byte.Statement.{statement}
 use Rattle.lines.proofs.put.byte.Tie as tie
 

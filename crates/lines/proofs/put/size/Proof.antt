@@ -1,9 +1,6 @@
 -- `lines::put::size` meets its contract. Assumes nothing.
-use borrow.Author.Needs.{needs}
-use mathlib.Core.Path.{_≡_, _∙_}
 use native.Mathlib.Omega.{arith}
-use Prim.Native.Nat.{_<_}
-use lib.IntN.{ℤ, pos, natAbs, _-ℤ_}
+use lib.IntN.{ℤ, pos, _-ℤ_}
 use mir.Facts.{toZ-ofZ}
 use mir.Syntax.{w8, w64}
 use mir.Val.{SFits, toZ, ofZ}
