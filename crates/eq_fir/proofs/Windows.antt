@@ -14,7 +14,7 @@ use lib.ListN.{List·getD-eq-default, drop, length, set, take}
 use lib.Seq.{getD-drop, getD-take}
 use mathlib.Core.Bool.{Bool, false, true}
 use mathlib.Core.List.{List, _++_}
-use mathlib.Core.Path.{_∙_, _≡_, ap, ap₂, refl, subst, sym}
+use mathlib.Core.Path.{_∙_, _≡_, ap, refl, subst, sym}
 use mir.Syntax.{w16, w32}
 use mir.Val.{SFits, ofZ, toZ}
 use native.Mathlib.Omega.{arith}
