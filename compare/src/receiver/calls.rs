@@ -25,17 +25,39 @@ pub enum Call {
     Eq(EqCall),
     Words([Ones; 2]),
     /// As many numbers of the points as `count` says.
-    Points { bits: u8, k: i64, count: u64, points: [i16; POINTS] },
-    Taps { frame: u32, taps: Pairs },
+    Points {
+        bits: u8,
+        k: i64,
+        count: u64,
+        points: [i16; POINTS],
+    },
+    Taps {
+        frame: u32,
+        taps: Pairs,
+    },
     Open(u32),
     End,
     /// An event of the last play, in full.
     Event(u64),
-    New { at: u64, step: i32, acc: u64 },
-    Restart { at: u64, acc: u64 },
+    New {
+        at: u64,
+        step: i32,
+        acc: u64,
+    },
+    Restart {
+        at: u64,
+        acc: u64,
+    },
     Look,
-    SetTable { k: u64, v: i16 },
-    Play { n: u64, lent: Lent, symbols: [[i8; 2]; PLAY] },
+    SetTable {
+        k: u64,
+        v: i16,
+    },
+    Play {
+        n: u64,
+        lent: Lent,
+        symbols: [[i8; 2]; PLAY],
+    },
 }
 
 fn of_bytes(n: &Numbers) -> [u8; 192] {

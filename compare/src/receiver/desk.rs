@@ -2,9 +2,9 @@
 
 use super::calls::{Call, Lent as Entries, ACC, PLAY, SOFT, STORE, TABLE};
 use super::model::{Answer, Lent, Receiver, Rules};
+use crate::eq::calls::Sums;
 use crate::eq::desk::{of_sums, Desk as EqDesk};
 use crate::eq::model::no_sums;
-use crate::eq::calls::Sums;
 use crate::frame::calls::Ones;
 use crate::phase::calls::{Numbers, Row};
 use crate::sync::calls::{mixed, Event, Kind};

@@ -16,7 +16,7 @@ pub struct Kind {
     pub play: fn(&mut Player, &mut Random, Size),
 }
 
-pub const KINDS: [Kind; 9] = [
+pub const KINDS: [Kind; 10] = [
     Kind { name: "bench values", play: bench_values },
     Kind { name: "noise", play: noise },
     Kind { name: "locked, all bits", play: locked },
@@ -25,6 +25,7 @@ pub const KINDS: [Kind; 9] = [
     Kind { name: "calls on the way", play: on_the_way },
     Kind { name: "extreme symbols", play: extremes },
     Kind { name: "positions", play: positions },
+    Kind { name: "refusals", play: refusals },
     Kind { name: "markers and their loss", play: markers },
 ];
 
@@ -49,7 +50,9 @@ fn load(p: &mut Player, bits: usize, k: i64) {
 fn bench_values(p: &mut Player, r: &mut Random, size: Size) {
     let mut bpsk = [0; POINTS];
     bpsk[..4].copy_from_slice(&[724, 724, -724, -724]);
-    p.start(&[[1; 48]; 2], &[32_767; 1_024], 0, 0);
+    // in a sample the table stays zero: 1,024 calls less
+    let table = if size == Size::Sample { Vec::new() } else { vec![32_767; 1_024] };
+    p.start(&[[1; 48]; 2], &table, 0, 0);
     p.refused(Call::Points { bits: 1, k: 0, count: 4, points: bpsk }, 0);
     let mut told = Vec::new();
     for k in 0..9_319 {
@@ -87,11 +90,14 @@ fn marker_loss(p: &mut Player, r: &mut Random, offset: u32) {
     let lost = lost.expect("a loss by markers");
     if offset == 9_295 {
         let at = p.desk.receiver.next() as u64;
-        let zeros = Event::Period { peak: 0, place: 0, sum: 0, locked: false, offset: 0, parity: 0, stray: 0, missed: 0 };
+        let zeros =
+            Event::Period { peak: 0, place: 0, sum: 0, locked: false, offset: 0, parity: 0, stray: 0, missed: 0 };
         assert_eq!(lost.events, [Event::Lost { at }, zeros, Event::Nothing], "offset 9,295 and a marker loss");
     }
     p.look();
-    for _ in 0..7 * SLOT {
+    // a lock again, and a mark, whose frame the record numbers
+    (signal.marks, signal.slot) = (true, 107);
+    for _ in 0..20 * SLOT {
         p.push(signal.next(r));
     }
 }
@@ -150,7 +156,7 @@ fn locked(p: &mut Player, r: &mut Random, size: Size) {
 fn offsets(p: &mut Player, r: &mut Random, size: Size) {
     for offset in [0, 9_295, 1, 9_294].into_iter().take(times(size, [0, 2, 4]) as usize) {
         let mut signal = any_signal([random_word(r), random_word(r)], 3, r);
-        (signal.amplitude, signal.payload, signal.j, signal.noise) = (50.0, 0.5, 0, 2);
+        (signal.amplitude, signal.payload, signal.j, signal.noise) = (40.0, 0.4, 0, 2);
         p.start(&signal.words, &cosine_table(), r.below(1 << 40) as u64, 0);
         load(p, 3, 90_000);
         for _ in 0..offset {
@@ -159,11 +165,10 @@ fn offsets(p: &mut Player, r: &mut Random, size: Size) {
         for _ in 0..times(size, [0, 9, 200]) * u64::from(SLOT) {
             p.push(signal.next(r));
         }
-        // silence until the lock is lost, then the signal again
-        for _ in 0..times(size, [0, 30, 60]) * u64::from(SLOT) {
-            p.push([0; 2]);
-        }
-        for _ in 0..7 * SLOT {
+        // the signal moves and is stronger: heads are read on at the old place until the lock is lost, then it locks anew
+        signal.amplitude = 110.0;
+        (0..100 + r.below(500)).for_each(|_| _ = signal.next(r));
+        for _ in 0..times(size, [0, 26, 60]) * u64::from(SLOT) {
             p.push(signal.next(r));
         }
     }
@@ -305,7 +310,9 @@ fn positions(p: &mut Player, r: &mut Random, size: Size) {
     for at in [0, 100, END - 40] {
         p.start(&words, &cosine_table(), at, 0);
         (0..30).for_each(|_| drop(p.push([3, 4])));
-        for (restart, refusal) in [(at, 7), (at + 29, 7), (at + 30, 0), (at + 29, 7), (at + 31, 0), (END, 0), (END - 1, 7)] {
+        for (restart, refusal) in
+            [(at, 7), (at + 29, 7), (at + 30, 0), (at + 29, 7), (at + 31, 0), (END, 0), (END - 1, 7)]
+        {
             p.refused(Call::Restart { at: restart, acc: 9_296 }, refusal);
             p.look();
         }
@@ -325,7 +332,6 @@ fn positions(p: &mut Player, r: &mut Random, size: Size) {
         p.ask(Call::End);
         p.look();
     }
-    assert_eq!(p.lent, RIGHT);
 }
 
 /// Frames with marks, marks that are missed, a loss by them at several offsets.
@@ -352,4 +358,96 @@ fn markers(p: &mut Player, r: &mut Random, size: Size) {
             }
         }
     }
+}
+
+/// A table that is right about the angles of a signal without a carrier, and zero elsewhere: few entries to set.
+fn sparse_table() -> Vec<i16> {
+    let near = |k: usize| [0, 256, 512, 768, 1_024].iter().any(|&middle: &usize| k.abs_diff(middle) < 5);
+    cosine_table().into_iter().enumerate().map(|(k, v)| if near(k) { v } else { 0 }).collect()
+}
+
+/// For the files that the replay program is run on: one lock with soft bits and training, and every kind of refusal.
+pub fn sample(p: &mut Player, r: &mut Random) {
+    bench_values(p, r, Size::Sample);
+    let mut signal = Signal::new(standard(), 60.0, 2);
+    (signal.noise, signal.slot, signal.payload) = (2, 115, 0.6);
+    p.start(&signal.words, &sparse_table(), 1_000, 0);
+    load(p, 2, 90_000);
+    p.refused(Call::Open(7), 0);
+    for k in 0..6 * SLOT + 300 {
+        p.push(signal.next(r));
+        if k == 5 * SLOT + 5_000 {
+            p.refused(Call::Taps { frame: 3, taps: std::array::from_fn(|k| if k == 10 { 16_000 } else { 90 }) }, 0);
+        }
+    }
+    p.refused(Call::End, 0);
+    p.refused(Call::End, 0);
+    refusals(p, r, Size::Sample);
+    p.refused(Call::Restart { at: 100_000, acc: 9_296 }, 0);
+    p.look();
+    p.start(&signal.words, &sparse_table(), END - 2, 7);
+    for refusal in [0, 0, 7, 7] {
+        p.refuses([9, -9], refusal);
+    }
+}
+
+/// Stores and tables of a wrong length, words with a wrong entry, loads that are refused: which number, which first, and that nothing changes.
+fn refusals(p: &mut Player, r: &mut Random, size: Size) {
+    if size != Size::Sample {
+        p.start(&standard(), &cosine_table(), 77, 5);
+        (0..200).for_each(|_| drop(p.push([r.next() as i8, r.next() as i8])));
+    }
+    let right = p.desk.words;
+    let mut wrong = right;
+    wrong[1][47] = 0;
+    for (k, lengths) in
+        [[0, 1_023, 1_025], [9_295, 9_297, 0], [18_591, 18_593, 0], [44_879, 0, 1]].into_iter().enumerate()
+    {
+        for length in lengths {
+            let mut lent = RIGHT;
+            lent[k] = length;
+            p.lend(lent);
+            p.refuses([5, 5], if k == 0 { 3 } else { 1 });
+            p.ask(Call::Words(wrong));
+            p.refuses([5, 5], if k == 0 { 2 } else { 1 });
+            p.ask(Call::Words(right));
+            p.look();
+        }
+    }
+    p.lend([1_024, 9_296, 18_592, 44_880]);
+    p.refuses([5, -5], 0);
+    p.lend(RIGHT);
+    for (k, entry) in [(0, 0), (47, 2), (48, -2), (95, 127), (60, -128)] {
+        let mut wrong = right;
+        wrong[k / 48][k % 48] = entry;
+        p.ask(Call::Words(wrong));
+        p.refuses([7, -7], 2);
+    }
+    p.ask(Call::Words(right));
+    p.refuses([7, -7], 0);
+    for acc in [0, 9_295, 9_297] {
+        p.refused(Call::Restart { at: END, acc }, 1);
+        p.refused(Call::Restart { at: 0, acc }, 1);
+    }
+    p.refused(Call::Restart { at: 0, acc: 9_296 }, 7);
+    let mut points = [0; POINTS];
+    points.iter_mut().for_each(|v| *v = r.next() as i16);
+    for (bits, count, k, refusal) in [
+        (0, 2, 5, 4),
+        (6, 80, 5, 4),
+        (255, 4, 5, 4),
+        (1, 3, 5, 4),
+        (1, 5, 5, 4),
+        (5, 63, -1, 4),
+        (5, 80, 5, 4),
+        (5, 64, -1, 5),
+        (5, 64, (1 << 24) + 1, 5),
+        (2, 8, i64::MIN, 5),
+        (2, 8, i64::MAX, 5),
+        (5, 64, 1 << 24, 0),
+        (3, 16, 0, 0),
+    ] {
+        p.refused(Call::Points { bits, k, count, points }, refusal);
+    }
+    p.look();
 }

@@ -5,6 +5,7 @@ use super::calls::{Call, Lent, PLAY, RIGHT};
 use super::desk::{played, Desk};
 use super::model::{Answer, RULES};
 use super::wired;
+use crate::eq::calls::Call as EqCall;
 use crate::frame::calls::Ones;
 use crate::inputs::Random;
 use crate::phase::calls::Numbers;
@@ -35,7 +36,10 @@ impl std::fmt::Display for Totals {
     fn fmt(&self, out: &mut std::fmt::Formatter) -> std::fmt::Result {
         let Self { calls, refused, symbols, beside, heads, periods, losses, slots, soft, sums } = self;
         write!(out, "{calls:>9} calls, {refused:>7} refused, {symbols:>9} symbols")?;
-        write!(out, "; by the Rust: {beside} symbols, {heads} heads, {periods} periods, {losses} losses, {slots} slots, ")?;
+        write!(
+            out,
+            "; by the Rust: {beside} symbols, {heads} heads, {periods} periods, {losses} losses, {slots} slots, "
+        )?;
         write!(out, "{soft} soft values, {sums} sums")
     }
 }
@@ -86,7 +90,7 @@ fn event_of(e: &wired::Event) -> Event {
 
 pub struct Player<'a> {
     pub desk: Desk,
-    pub lent: Lent,
+    lent: Lent,
     rust: Option<wired::Receiver>,
     /// Symbols that were not played yet, and what the last of them answered.
     waiting: Vec<[i8; 2]>,
@@ -161,13 +165,20 @@ impl<'a> Player<'a> {
         told
     }
 
-    /// The stores.
+    /// The stores, and the equaliser.
     pub fn look(&mut self) {
         self.played(&Answer::refused(0));
         self.plain(Call::Look);
+        self.plain(Call::Eq(EqCall::Tell));
         if let Some(rust) = &self.rust {
             assert_eq!(rust.accumulators(), &self.desk.acc[..9_296], "accumulators");
         }
+    }
+
+    /// So many entries are lent from now on.
+    pub fn lend(&mut self, lent: Lent) {
+        self.played(&Answer::refused(0));
+        self.lent = lent;
     }
 
     /// One symbol. It is played with those that wait.
@@ -248,7 +259,9 @@ impl<'a> Player<'a> {
                 points: points.chunks(2).take(1 << bits).map(|p| [p[0], p[1]]).collect(),
                 k,
             }),
-            Call::Taps { frame, taps } => rust.load_taps(std::array::from_fn(|k| [taps[2 * k], taps[2 * k + 1]]), frame),
+            Call::Taps { frame, taps } => {
+                rust.load_taps(std::array::from_fn(|k| [taps[2 * k], taps[2 * k + 1]]), frame)
+            }
             Call::Open(frame) => rust.open(frame),
             Call::End => {
                 let sums = rust.end();

@@ -75,6 +75,16 @@ pub(crate) fn play(
     let r = k.receiver;
     let f = k.f;
     let s = k.s;
-    let d = play::play(r, n, &x, f, s, &table[..t], &mut acc[..a], &mut store[..b], &mut soft[..c]);
+    let d = play::play(
+        r,
+        n,
+        &x,
+        f,
+        s,
+        &table[..t],
+        &mut acc[..a],
+        &mut store[..b],
+        &mut soft[..c],
+    );
     told(k, d)
 }

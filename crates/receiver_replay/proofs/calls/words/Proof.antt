@@ -1,5 +1,5 @@
 -- `receiver_replay::calls::words` meets its contract. Assumes nothing.
-use Rattle.receiver_replay.specs.Calls.{wordsCall}
+use Rattle.receiver_replay.specs.Calls.{plain, wordsCall}
 use borrow.Author.Needs.{needs}
 use Rattle.receiver_replay.proofs.calls.words.Statement.{statement}
 use Rattle.receiver_replay.proofs.calls.words.Tie as tie

@@ -21,7 +21,6 @@ abbrev μ-loop : tie.MeasureT-loop
 loop-holds : tie.Need-loop-holds Inv-loop μ-loop
 loop-holds c = (omega arith, digest-none _)
 
-
 shared-slice-copy-out-mixed8 : tie.Need-shared-slice-copy-out-mixed8 Inv-loop μ-loop
 shared-slice-copy-out-mixed8 c = search needs
 

@@ -1,59 +1,50 @@
-use Rattle.receiver_replay.specs.Calls.{newTurn}
-use Rattle.receiver_replay.specs.Calls.{newLeft}
+-- `receiver_replay::stores::new` meets its contract. Assumes nothing.
+use Rattle.receiver_replay.proofs.Laws.{drop-least, take-least}
+use Rattle.receiver_replay.specs.Calls.{newLeft, newTurn}
 use borrow.Author.Needs.{needs}
+use lib.Seq.{length-take-le}
+use mathlib.Core.Path.{sym}
+use mir.Facts.{toZ-ofZ}
 use Rattle.receiver_replay.proofs.stores.new.Statement.{statement}
 use Rattle.receiver_replay.proofs.stores.new.Tie as tie
-use Rattle.receiver_replay.proofs.stores.new.Reads as reads
-use Rattle.receiver_replay.proofs.stores.new.Lts as lts
-use Rattle.receiver.proofs.new.Reads as new-reads
-use Rattle.receiver_replay.proofs.calls.answered.Reads as answered-reads
-use Rattle.receiver_replay.proofs.given.least.Reads as least-reads
-use Rattle.wire.proofs.signed32.Reads as signed32-reads
 
--- src/stores.rt:17:26
 element-copy-out-least : tie.Need-element-copy-out-least
 element-copy-out-least c = search needs
 
--- src/stores.rt:17:9
 least-requires : tie.Need-least-requires
 least-requires c κs = search needs
 
--- src/stores.rt:18:27
 element-copy-out-new : tie.Need-element-copy-out-new
 element-copy-out-new c = search needs
 
--- src/stores.rt:18:48
 element-copy-out-signed32 : tie.Need-element-copy-out-signed32
 element-copy-out-signed32 c = search needs
 
--- src/stores.rt:18:33
 signed32-requires : tie.Need-signed32-requires
 signed32-requires c κs = search needs
 
--- src/stores.rt:18:55
 slice-relend-prefix-new : tie.Need-slice-relend-prefix-new
 slice-relend-prefix-new c = search needs
 
--- src/stores.rt:18:55
 slice-aggregate-new : tie.Need-slice-aggregate-new
-slice-aggregate-new c = search needs
+unfolding newTurn newLeft
+slice-aggregate-new c = sym (length-take-le _ _ (search needs))
 
--- src/stores.rt:18:9
 new-requires : tie.Need-new-requires
 new-requires c κs = search needs
 
--- src/stores.rt:19:5
 answered-requires : tie.Need-answered-requires
 answered-requires c κs = search needs
 
--- src/stores.rt:14:1
 same-length : tie.Need-same-length
 same-length c = search needs
 
--- src/stores.rt:14:1
 returns : tie.Need-returns
 unfolding newTurn newLeft
-returns c = search needs
+returns c =
+    let l = c .before .before .before .before .before .before .before .before .before .before .before .args .acc .now in
+    let e = rw (toZ-ofZ (record { sfits = c .before .before .before .before .before .signed32 .ok }), c .before .before .before .before .before .signed32 .ensures, c .before .before .before .before .before .before .before .before .least .ensures .0, take-least _ l) at (c .before .before .before .new .ensures) in
+    (rw (c .answered .ensures, e .0), rw (e .1, c .before .before .before .before .before .before .before .before .least .ensures .0, drop-least _ l))
 
 pub new-spec : {M : Type 1} → statement M
 new-spec =

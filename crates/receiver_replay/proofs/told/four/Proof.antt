@@ -1,14 +1,15 @@
+-- `receiver_replay::told::four` meets its contract. Assumes nothing.
 use Rattle.receiver_replay.specs.Told.{fourTold}
-use borrow.Author.Needs.{needs}
+use mathlib.Core.Path.{refl}
 use Rattle.receiver_replay.proofs.told.four.Statement.{statement}
 use Rattle.receiver_replay.proofs.told.four.Tie as tie
-use Rattle.receiver_replay.proofs.told.four.Reads as reads
-use Rattle.receiver_replay.proofs.told.four.Lts as lts
 
--- src/told.rt:11:1
 returns : tie.Need-returns
 unfolding fourTold
-returns c = search needs
+returns c = refl
 
 pub four-spec : {M : Type 1} → statement M
-four-spec = tie.close (tie.spec returns)
+four-spec =
+    tie.close
+    (tie.spec
+    returns)

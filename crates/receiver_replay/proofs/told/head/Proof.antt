@@ -1,9 +1,9 @@
 -- `receiver_replay::told::head` meets its contract. Assumes nothing.
 use Rattle.receiver_replay.specs.Told.{headTold}
-use mir.Facts.{toZ-ofZ}
-use mir.Val.{SFits}
-use mir.Syntax.{w32, w64}
 use borrow.Author.Needs.{needs}
+use mir.Facts.{toZ-ofZ}
+use mir.Syntax.{w32, w64}
+use mir.Val.{SFits}
 use Rattle.receiver_replay.proofs.told.head.Statement.{statement}
 use Rattle.receiver_replay.proofs.told.head.Tie as tie
 
@@ -13,8 +13,8 @@ slot-shown-requires c κs = search needs
 word-number-requires : tie.Need-word-number-requires
 word-number-requires c κs = search needs
 
-cast-t12 : tie.Need-cast-t12
-cast-t12 c = search needs
+cast-t7 : tie.Need-cast-t7
+cast-t7 c = search needs
 
 to-bits-requires : tie.Need-to-bits-requires
 to-bits-requires c κs = search needs
@@ -25,8 +25,8 @@ bits32-requires c κs = search needs
 bits32-requires-2 : tie.Need-bits32-requires-2
 bits32-requires-2 c κs = search needs
 
-cast-t16 : tie.Need-cast-t16
-cast-t16 c = search needs
+cast-t11 : tie.Need-cast-t11
+cast-t11 c = search needs
 
 returns : tie.Need-returns
 unfolding headTold
@@ -43,9 +43,9 @@ head-spec =
     (tie.spec
     slot-shown-requires
     word-number-requires
-    cast-t12
+    cast-t7
     to-bits-requires
     bits32-requires
     bits32-requires-2
-    cast-t16
+    cast-t11
     returns)

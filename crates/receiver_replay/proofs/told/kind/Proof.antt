@@ -1,47 +1,46 @@
+-- `receiver_replay::told::kind` meets its contract. Assumes nothing.
 use Rattle.receiver_replay.specs.Told.{kindOf}
 use borrow.Author.Needs.{needs}
 use Rattle.receiver_replay.proofs.told.kind.Statement.{statement}
 use Rattle.receiver_replay.proofs.told.kind.Tie as tie
-use Rattle.receiver_replay.proofs.told.kind.Reads as reads
-use Rattle.receiver_replay.proofs.told.kind.Lts as lts
 
--- src/told.rt:124:27
 enum-told : tie.Need-enum-told
 enum-told c = search needs
 
--- src/told.rt:125:27
 enum-told-2 : tie.Need-enum-told-2
 enum-told-2 c = search needs
 
--- src/told.rt:126:29
 enum-told-3 : tie.Need-enum-told-3
 enum-told-3 c = search needs
 
--- src/told.rt:127:27
 enum-told-4 : tie.Need-enum-told-4
 enum-told-4 c = search needs
 
--- src/told.rt:120:1
 returns : tie.Need-returns
 unfolding kindOf
-returns c = search needs
+returns c = rw (c .enum-told .given .1)
 
--- src/told.rt:120:1
 returns-2 : tie.Need-returns-2
 unfolding kindOf
-returns-2 c = search needs
+returns-2 c = rw (c .enum-told2 .given .1)
 
--- src/told.rt:120:1
 returns-3 : tie.Need-returns-3
 unfolding kindOf
-returns-3 c = search needs
+returns-3 c = rw (c .enum-told3 .given .1)
 
--- src/told.rt:120:1
 returns-4 : tie.Need-returns-4
 unfolding kindOf
-returns-4 c = search needs
+returns-4 c = rw (c .enum-told4 .given .1)
 
 pub kind-spec : {M : Type 1} → statement M
 kind-spec =
     tie.close
-    (tie.spec enum-told enum-told-2 enum-told-3 enum-told-4 returns returns-2 returns-3 returns-4)
+    (tie.spec
+    enum-told
+    enum-told-2
+    enum-told-3
+    enum-told-4
+    returns
+    returns-2
+    returns-3
+    returns-4)
