@@ -4,6 +4,7 @@ use super::calls::{Call, PLAY, POINTS, RIGHT};
 use super::player::Player;
 use super::signal::{points, Signal, SLOT};
 use crate::demap::soft::any_points;
+use crate::eq::calls::{Call as EqCall, Equaliser};
 use crate::frame::calls::Ones;
 use crate::inputs::{cosine_table, pick, Random, Size};
 use crate::sync::calls::Event;
@@ -16,7 +17,7 @@ pub struct Kind {
     pub play: fn(&mut Player, &mut Random, Size),
 }
 
-pub const KINDS: [Kind; 10] = [
+pub const KINDS: [Kind; 12] = [
     Kind { name: "bench values", play: bench_values },
     Kind { name: "noise", play: noise },
     Kind { name: "locked, all bits", play: locked },
@@ -26,6 +27,8 @@ pub const KINDS: [Kind; 10] = [
     Kind { name: "extreme symbols", play: extremes },
     Kind { name: "positions", play: positions },
     Kind { name: "refusals", play: refusals },
+    Kind { name: "full sums", play: full_sums },
+    Kind { name: "damage", play: damage },
     Kind { name: "markers and their loss", play: markers },
 ];
 
@@ -135,7 +138,7 @@ fn train(p: &mut Player, k: u32) {
 }
 
 fn locked(p: &mut Player, r: &mut Random, size: Size) {
-    for turn in 0..times(size, [1, 5, 90]) {
+    for turn in 0..times(size, [1, 5, 60]) {
         let bits = 1 + (turn % 5) as usize;
         let mut signal = any_signal(standard(), bits, r);
         p.start(&signal.words, &cosine_table(), r.below(1 << 60) as u64, (r.below(2_001) - 1_000) as i32);
@@ -450,4 +453,168 @@ fn refusals(p: &mut Player, r: &mut Random, size: Size) {
         p.refused(Call::Points { bits, k, count, points }, refusal);
     }
     p.look();
+}
+
+/// The equaliser's single numbers replaced.
+fn bend(p: &mut Player, change: impl FnOnce(&mut Equaliser)) {
+    let mut e = p.desk.receiver.eq;
+    change(&mut e);
+    let (filled, from, opened) = (e.filled, e.from, e.opened);
+    p.ask(Call::Eq(EqCall::PutNumbers { filled, from, opened, frame: e.sums.frame, count: e.sums.count }));
+}
+
+/// A training count at its limit: a slot makes 24 trainings, or 5 fewer if it is the first. It is all of them or none.
+fn full_sums(p: &mut Player, r: &mut Random, size: Size) {
+    const LIMIT: u32 = 4_194_304;
+    for spare in [0, 1, 18, 19, 23, 24, 25].into_iter().take(times(size, [0, 4, 7]) as usize) {
+        let mut signal = Signal::new(standard(), 50.0, 1);
+        (signal.noise, signal.payload, signal.slot) = (1, 0.5, 3);
+        p.start(&signal.words, &cosine_table(), 1 << 33, 0);
+        load(p, 1, 90_000);
+        let mut slots = 0;
+        let mut refused = 0;
+        for _ in 0..9 * SLOT {
+            let answer = p.push(signal.next(r));
+            slots += u32::from(answer.corrected > 0);
+            if answer.corrected > 0 && slots == 2 {
+                p.refused(Call::Open(5), 0);
+                bend(p, |e| e.sums.count = LIMIT - spare);
+            }
+            if answer.refusal != 0 {
+                assert_eq!(answer.refusal, 8);
+                refused += 1;
+                p.look();
+                // nothing has changed: the same symbol is refused again, and taken once there is room
+                let x = signal.next(r);
+                p.refuses(x, 8);
+                bend(p, |e| e.sums.count -= 100);
+                p.refuses(x, 0);
+            }
+        }
+        assert!(refused > 0, "sums that are full");
+        p.refused(Call::End, 0);
+        p.look();
+    }
+}
+
+/// Any arguments at all.
+fn any_length(r: &mut Random, right: u64) -> u64 {
+    match r.below(4) {
+        0 => right,
+        1 => right.wrapping_add(r.near() as u64),
+        2 => r.below(2 * right) as u64,
+        _ => r.next(),
+    }
+}
+
+fn bent_number(r: &mut Random, right: u32) -> u32 {
+    match r.below(6) {
+        0 => r.next() as u32,
+        1 => right.wrapping_add(r.near() as u32),
+        2 => pick(r, &[0, 11, 5, 6, 10, 12]),
+        3 => pick(r, &[4_194_303, 4_194_304, 4_194_305]),
+        _ => right,
+    }
+}
+
+fn wide_entry(r: &mut Random) -> i64 {
+    match r.below(4) {
+        0 => r.next() as i64,
+        1 => pick(r, &[1 << 53, -((1 << 53) - (1 << 38)), (1 << 53) - (1 << 37), 199_011_604_627_456]) + r.near(),
+        _ => r.signed(53),
+    }
+}
+
+/// A part of the equaliser replaced by anything.
+fn any_bend(p: &mut Player, r: &mut Random) -> EqCall {
+    let e = &p.desk.receiver.eq;
+    match r.below(6) {
+        0 => EqCall::PutLine { line: std::array::from_fn(|_| r.next() as i16) },
+        1 => EqCall::PutTaps { taps: any_taps(r) },
+        2 => EqCall::PutUpper { group: r.below(7) as u64, values: std::array::from_fn(|_| wide_entry(r)) },
+        3 => EqCall::PutRight { values: std::array::from_fn(|_| wide_entry(r)) },
+        _ => EqCall::PutNumbers {
+            filled: bent_number(r, e.filled),
+            from: (r.below(2) == 0).then_some(r.next() as u32),
+            opened: r.below(2) == 0,
+            frame: r.next() as u32,
+            count: bent_number(r, e.sums.count),
+        },
+    }
+}
+
+fn any_damage(p: &mut Player, r: &mut Random) {
+    match r.below(12) {
+        0 => {
+            let lent = RIGHT;
+            p.lend(std::array::from_fn(|k| any_length(r, lent[k])));
+            (0..3).for_each(|_| drop(p.push([r.next() as i8, r.next() as i8])));
+            p.lend(RIGHT);
+        }
+        1 => {
+            let right = p.desk.words;
+            let mut words = right;
+            words[r.below(2) as usize][r.below(48) as usize] = r.next() as i8;
+            p.ask(Call::Words(words));
+            (0..3).for_each(|_| drop(p.push([r.next() as i8, r.next() as i8])));
+            p.ask(Call::Words(right));
+        }
+        2 => {
+            let any = r.next();
+            let bits = pick(r, &[0, 1, 2, 3, 4, 5, 6, 200, any as u8]);
+            let count = any_length(r, 2u64.wrapping_shl(bits.into()));
+            let points = std::array::from_fn(|_| r.next() as i16);
+            let small = r.positive(24);
+            let k = pick(r, &[0, 1 << 24, (1 << 24) + 1, -1, small, any as i64]);
+            p.ask(Call::Points { bits, k, count, points });
+        }
+        3 => drop(p.ask(Call::Taps { frame: r.next() as u32, taps: any_taps(r) })),
+        4 => drop(p.ask(Call::Open(r.next() as u32))),
+        5 => drop(p.ask(Call::End)),
+        6 => {
+            let next = p.desk.receiver.next() as u64;
+            let any = r.next();
+            let at = pick(r, &[next, next + 1, next.wrapping_sub(1), END, any]);
+            let acc = any_length(r, 9_296);
+            p.ask(Call::Restart { at, acc });
+        }
+        7 => {
+            // a call that there is not
+            let mut call = [0; 24];
+            call.iter_mut().for_each(|n| *n = r.next());
+            p.unknown(call);
+        }
+        _ => {
+            let call = any_bend(p, r);
+            p.ask(Call::Eq(call));
+        }
+    }
+}
+
+/// Random calls with any arguments, wrong stores, an equaliser with any numbers: each answer is the model's, that is a refusal by document 01's
+/// number, after which stores and equaliser are as before, or what a taken call gives.
+fn damage(p: &mut Player, r: &mut Random, size: Size) {
+    for _ in 0..times(size, [0, 4, 60]) {
+        let mut signal = any_signal(standard(), 2, r);
+        (signal.amplitude, signal.payload, signal.noise) = (50.0, 0.5, 1);
+        p.start(&signal.words, &cosine_table(), r.below(1 << 60) as u64, 0);
+        let often = pick(r, &[40, 300, 5_000]);
+        for _ in 0..7 * SLOT {
+            p.push(signal.next(r));
+            if r.below(often) == 0 {
+                any_damage(p, r);
+                if r.below(8) == 0 {
+                    p.look();
+                }
+                if p.desk.receiver.next() >= END.into() {
+                    // no symbol is taken there
+                    p.start(&signal.words, &cosine_table(), r.below(1 << 61) as u64, 0);
+                }
+                if !p.desk.receiver.in_range() && r.below(3) != 0 {
+                    // back in range, so that the stream goes on
+                    bend(p, |e| (e.filled, e.opened, e.sums.count) = (if e.filled == 0 { 0 } else { 11 }, false, 0));
+                }
+            }
+        }
+    }
 }

@@ -235,6 +235,15 @@ impl<'a> Player<'a> {
         told
     }
 
+    /// A call that there is not, unless its number is one.
+    pub fn unknown(&mut self, call: Numbers) {
+        self.played(&Answer::refused(0));
+        let of = Call::of_numbers(&call);
+        assert!(of.is_none(), "{of:?}");
+        let told = self.desk.answer(None);
+        self.owe(call, told);
+    }
+
     fn follow(&mut self, call: &Call, told: &Numbers) {
         if told[0] != 0 {
             return;
