@@ -72,6 +72,7 @@ fn bench_values(p: &mut Player, r: &mut Random, size: Size) {
 /// Heads at this offset; two frames without marks.
 fn marker_loss(p: &mut Player, r: &mut Random, offset: u32) {
     let mut signal = Signal::new(standard(), 60.0, 2);
+    signal.turn = 2e-6;
     p.start(&signal.words, &cosine_table(), 1_000_000, 0);
     load(p, 2, 100_000);
     for _ in 0..offset {
