@@ -78,8 +78,9 @@ fn marker_loss(p: &mut Player, r: &mut Random, offset: u32) {
     for _ in 0..offset {
         p.push([0; 2]);
     }
-    signal.slot = 101;
-    for _ in 0..26 * SLOT {
+    // so that the loss comes shortly before a setting of the carrier's step
+    signal.slot = 3;
+    for _ in 0..122 * SLOT {
         p.push(signal.next(r));
     }
     signal.marks = false;
@@ -145,7 +146,7 @@ fn locked(p: &mut Player, r: &mut Random, size: Size) {
         p.start(&signal.words, &cosine_table(), r.below(1 << 60) as u64, (r.below(2_001) - 1_000) as i32);
         load(p, bits, pick(r, &[81_722, 1 << 20, 1 << 24]));
         train(p, turn as u32);
-        for k in 0..times(size, [7, 30, 160]) * u64::from(SLOT) {
+        for k in 0..times(size, [7, 15, 160]) * u64::from(SLOT) {
             p.push(signal.next(r));
             if k % 100_003 == 0 {
                 p.look();
