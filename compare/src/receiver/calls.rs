@@ -58,6 +58,12 @@ pub enum Call {
         lent: Lent,
         symbols: [[i8; 2]; PLAY],
     },
+    /// The same symbols by one call of `feed`.
+    Feed {
+        n: u64,
+        lent: Lent,
+        symbols: [[i8; 2]; PLAY],
+    },
 }
 
 fn of_bytes(n: &Numbers) -> [u8; 192] {
@@ -83,6 +89,7 @@ impl Call {
             Call::Look => 66,
             Call::SetTable { .. } => 67,
             Call::Play { .. } => 68,
+            Call::Feed { .. } => 69,
         });
         match *self {
             Call::Words(words) => {
@@ -106,7 +113,7 @@ impl Call {
             Call::New { at, step, acc } => [at, i64::from(step) as u64, acc].iter().for_each(|&v| row.put(v)),
             Call::Restart { at, acc } => [at, 0, acc].iter().for_each(|&v| row.put(v)),
             Call::SetTable { k, v } => [k, i64::from(v) as u64].iter().for_each(|&v| row.put(v)),
-            Call::Play { n, lent, symbols } => {
+            Call::Play { n, lent, symbols } | Call::Feed { n, lent, symbols } => {
                 row.put(n);
                 lent.iter().for_each(|&v| row.put(v));
                 let mut bytes = of_bytes(&row.numbers);
@@ -143,6 +150,11 @@ impl Call {
             66 => Call::Look,
             67 => Call::SetTable { k: n[1], v: n[2] as i16 },
             68 => Call::Play {
+                n: n[1],
+                lent: [n[2], n[3], n[4], n[5]],
+                symbols: std::array::from_fn(|k| [bytes[48 + 2 * k] as i8, bytes[49 + 2 * k] as i8]),
+            },
+            69 => Call::Feed {
                 n: n[1],
                 lent: [n[2], n[3], n[4], n[5]],
                 symbols: std::array::from_fn(|k| [bytes[48 + 2 * k] as i8, bytes[49 + 2 * k] as i8]),

@@ -121,6 +121,32 @@ impl Desk {
         played(&last, used)
     }
 
+    /// As a play, but a refusal comes only with no symbol taken.
+    fn feed(&mut self, n: u64, lent: Entries, symbols: &[[i8; 2]; PLAY]) -> Numbers {
+        if n == 0 {
+            let refusal = self.standing(lent);
+            self.events = [Event::Nothing; 3];
+            return played(&Answer::refused(refusal), 0);
+        }
+        let mut told = self.play(n, lent, symbols);
+        if told[1] > 0 {
+            told[0] = 0;
+        }
+        told
+    }
+
+    /// The refusal of a feed of no symbols.
+    pub fn standing(&mut self, [table, acc, store, soft]: Entries) -> u8 {
+        let lent = Lent {
+            words: &self.words,
+            table: part(&mut self.table, table),
+            acc: part(&mut self.acc, acc),
+            store: part(&mut self.store, store),
+            soft: part(&mut self.soft, soft),
+        };
+        self.receiver.standing(&lent)
+    }
+
     fn eq(&mut self, call: Option<crate::eq::calls::Call>) -> Numbers {
         let rules = self.receiver.rules.frame.eq;
         let mut desk = EqDesk { rules, eq: self.receiver.eq, sums: self.sums };
@@ -169,6 +195,7 @@ impl Desk {
                 plain(0)
             }
             Call::Play { n, lent, symbols } => self.play(n, lent, &symbols),
+            Call::Feed { n, lent, symbols } => self.feed(n, lent, &symbols),
         }
     }
 }

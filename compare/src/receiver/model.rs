@@ -293,6 +293,14 @@ impl Receiver {
         }
     }
 
+    /// A `feed` of no symbols: 1, 2, 3 and 6.
+    pub fn standing(&self, l: &Lent) -> u8 {
+        match self.early(l) {
+            7 => 0,
+            n => n,
+        }
+    }
+
     /// 1, 2, 3, 6, and 7 by the symbol's own position.
     fn early(&self, l: &Lent) -> u8 {
         let fit = l.acc.len() == 9_296 && l.store.len() == 18_592 && l.soft.len() >= self.rules.soft;

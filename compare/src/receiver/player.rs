@@ -148,14 +148,37 @@ impl<'a> Player<'a> {
         self.waiting.clear();
         let used = n as u64 - u64::from(last.refusal != 0);
         self.desk.events = last.events;
-        let call = Call::Play { n: n as u64, lent: self.lent, symbols };
-        self.owe(call.numbers(), played(last, used));
+        let (n, lent) = (n as u64, self.lent);
+        if self.random.below(2) == 0 {
+            self.owe(Call::Play { n, lent, symbols }.numbers(), played(last, used));
+        } else {
+            self.fed(Call::Feed { n, lent, symbols }, last, used);
+        }
         let told = last.events.iter().filter(|&&e| e != Event::Nothing).count() as u64;
         for k in 0..told {
             self.plain(Call::Event(k));
         }
         if last.runs.iter().any(|r| r.count > 0) || (last.refusal != 0 && self.random.below(8) == 0) {
             self.look();
+        }
+    }
+
+    /// The same by `feed`: a refusal comes with no symbol taken, so a refused one is given once more.
+    fn fed(&mut self, call: Call, last: &Answer, used: u64) {
+        let Call::Feed { n, lent, symbols } = call else { unreachable!("a feed") };
+        let stops = last.refusal != 0 && used > 0;
+        let told = if stops { played(&Answer::refused(0), used) } else { played(last, used) };
+        self.owe(call.numbers(), told);
+        if stops {
+            let mut one = [[0; 2]; PLAY];
+            one[0] = symbols[n as usize - 1];
+            self.owe(Call::Feed { n: 1, lent, symbols: one }.numbers(), played(last, 0));
+        }
+        if self.random.below(64) == 0 {
+            // of no symbols, with what a play before it told gone: only if nothing was told
+            if last.events[0] == Event::Nothing {
+                self.plain(Call::Feed { n: 0, lent, symbols });
+            }
         }
     }
 

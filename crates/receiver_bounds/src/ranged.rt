@@ -89,7 +89,7 @@ fn stage_within(k: Stage) -> bool
     }
 }
 
-fn tally_within(t: Tally) -> bool
+pub fn tally_within(t: Tally) -> bool
     ensures { λ r. ⌜ r ≡ tallyWithin t ⌝ }
 {
     (t.peak <= 3758114816) & (t.place <= 9295) & (t.sum <= 34935435329536)

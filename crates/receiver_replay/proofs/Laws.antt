@@ -2,7 +2,7 @@
 use mathlib.Core.Bool.{true, false}
 use mathlib.Core.List.{List, _++_}
 use mathlib.Core.Path.{_≡_, refl, sym, ap, _∙_}
-use Prim.Native.Nat.{ℕ, zero, suc, _+_, _≤_}
+use Prim.Native.Nat.{ℕ, zero, suc, _+_, _*_, _≤_}
 use native.Mathlib.Nat.{le-refl}
 use native.Mathlib.Numerals.{add-one}
 use native.Mathlib.Omega.{arith}
@@ -21,14 +21,15 @@ use Rattle.receiver.specs.declared.Receiver.{Receiver}
 use Rattle.receiver.specs.declared.Answer.{Answer}
 use Rattle.receiver.specs.Symbol.{Lent}
 use Rattle.receiver.specs.Answers.{symbolAnswer, symbolLent}
-use Rattle.receiver.specs.Feed.{Block, inputAt}
+use Rattle.receiver.specs.Feed.{Block, inputAt, feedOf}
+use Rattle.receiver_feed.specs.Answers.{feedAnswer}
 use Rattle.receiver_replay.specs.declared.kept.Kept.{Kept}
 use Rattle.receiver_replay.specs.declared.kept.Turn.{Turn}
 use Rattle.receiver_replay.specs.declared.play.Played.{Played}
 use Rattle.receiver_replay.specs.Given.{leastOf, symbolsOf}
 use Rattle.receiver_replay.specs.Told.{digest32To}
-use Rattle.receiver_replay.specs.Play.{Course, course, block, lentOf, stopsAt, stopped, quiet, playFrom}
-use Rattle.receiver_replay.specs.Calls.{All, all, moved, plain, unmoved, eventAt, playedOf, playedTurn, playCall}
+use Rattle.receiver_replay.specs.Play.{Course, course, block, lentOf, stopsAt, stopped, quiet, playFrom, fedOf}
+use Rattle.receiver_replay.specs.Calls.{All, all, moved, plain, unmoved, eventAt, playedOf, playedTurn, playCall, fedBlock, feedCall}
 use Rattle.receiver_replay.specs.Replay.{plains, plainOf, takers, storesOf, turnOf, answerBytes}
 
 -- ---- as many entries as there are
@@ -100,12 +101,27 @@ played-is k p table acc store soft n t a b d x bytes m acc' store' soft' r en et
     let gl = rw (ts, al, bs, ds, en, ex, ey) at el in
     rw (er, gm, ap (λ (l : Lent). l .acc) gl, ap (λ (l : Lent). l .store) gl, ap (λ (l : Lent). l .soft) gl, ar, br, dr)
 
+-- .. by `feed`
+pub fed-is : (k : Kept) (p : List ℕ) (table : List ℤ) (acc : List ℕ) (store soft : List ℤ) (n t a b d : ℕ) (x : List ℤ) (bytes : List ℕ) (m : Played) (acc' : List ℕ) (store' soft' : List ℤ) (r : Turn) → n ≡ leastOf (at p 1) 72 → t ≡ leastOf (at p 2) (length table) → a ≡ leastOf (at p 3) (length acc) → b ≡ leastOf (at p 4) (length store) → d ≡ leastOf (at p 5) (length soft) → x ≡ symbolsOf bytes → bytes ≡ packedOf p → m ≡ fedOf (feedAnswer (k .receiver) (block (take (2 * n) x) (k .f) (k .s) (take t table)) (lentOf (take a acc) (take b store) (take d soft))) → lentOf acc' store' soft' ≡ feedOf (k .receiver) (block (take (2 * n) x) (k .f) (k .s) (take t table)) (lentOf (take a acc) (take b store) (take d soft)) .lent → r ≡ playedTurn k m → moved r table (acc' ++ drop a acc) (store' ++ drop b store) (soft' ++ drop d soft) ≡ feedCall p (all k table acc store soft)
+unfolding feedCall fedBlock
+fed-is k p table acc store soft n t a b d x bytes m acc' store' soft' r en et ea eb ed ex ey em el er =
+    let ts : take t table ≡ take (at p 2) table = rw et (take-least (at p 2) table) in
+    let al : take a acc ≡ take (at p 3) acc = rw ea (take-least (at p 3) acc) in
+    let bs : take b store ≡ take (at p 4) store = rw eb (take-least (at p 4) store) in
+    let ds : take d soft ≡ take (at p 5) soft = rw ed (take-least (at p 5) soft) in
+    let ar : drop a acc ≡ drop (at p 3) acc = rw ea (drop-least (at p 3) acc) in
+    let br : drop b store ≡ drop (at p 4) store = rw eb (drop-least (at p 4) store) in
+    let dr : drop d soft ≡ drop (at p 5) soft = rw ed (drop-least (at p 5) soft) in
+    let gm = rw (ts, al, bs, ds, en, ex, ey) at em in
+    let gl = rw (ts, al, bs, ds, en, ex, ey) at el in
+    rw (er, gm, ap (λ (l : Lent). l .acc) gl, ap (λ (l : Lent). l .store) gl, ap (λ (l : Lent). l .soft) gl, ar, br, dr)
+
 -- ---- calls that there are not
 pub plain-none : (n : ℕ) (p : List ℕ) (k : Kept) → 6 ≤ n → plain k 255 ≡ plainOf n p k
 unfolding plainOf
 plain-none n p k h = sym (List·getD-eq-default (plains p k) (plain k 255) h)
 
-pub stores-none : (n : ℕ) (p : List ℕ) (a : All) → 5 ≤ n → unmoved a (plain (a .kept) 255) ≡ storesOf n p a
+pub stores-none : (n : ℕ) (p : List ℕ) (a : All) → 6 ≤ n → unmoved a (plain (a .kept) 255) ≡ storesOf n p a
 unfolding storesOf
 stores-none n p a h = sym (List·getD-eq-default (takers p a) (unmoved a (plain (a .kept) 255)) h)
 

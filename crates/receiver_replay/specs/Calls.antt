@@ -1,5 +1,5 @@
 -- What each call answers and leaves, by the definitions of receiver.
-use Prim.Native.Nat.{ℕ, zero, suc, _+_, _%_, _^_}
+use Prim.Native.Nat.{ℕ, zero, suc, _+_, _*_, _%_, _^_}
 use mathlib.Core.List.{List, _++_}
 use lib.Dec.{ltb}
 use lib.IntN.{ℤ}
@@ -11,6 +11,8 @@ use Rattle.eq.specs.declared.Equaliser.{Equaliser}
 use Rattle.receiver.specs.declared.Receiver.{Receiver}
 use Rattle.receiver.specs.declared.Answered.{Answered}
 use Rattle.receiver.specs.Symbol.{Lent}
+use Rattle.receiver.specs.Feed.{Block, feedOf}
+use Rattle.receiver_feed.specs.Answers.{feedAnswer}
 use Rattle.receiver.specs.Answers.{newAnswer, newAcc, pointsAnswer, withEq, tapsAnswer, openAnswer, endAnswer, restartAnswer, restartAcc}
 use Rattle.wire.specs.Wire.{signed, packedOf}
 use Rattle.wire.specs.Digest.{digestOf}
@@ -22,7 +24,7 @@ use Rattle.receiver_replay.specs.declared.play.Played.{Played}
 use Rattle.receiver_replay.specs.Kept.{withReceiver, withPlayed, withWords, turned}
 use Rattle.receiver_replay.specs.Given.{leastOf, onesAt, symbolsOf, pointsOf, tapsOf}
 use Rattle.receiver_replay.specs.Told.{fourTold, eventTold, playedTold, endedTold, digest32Of}
-use Rattle.receiver_replay.specs.Play.{Course, block, lentOf, playFrom}
+use Rattle.receiver_replay.specs.Play.{Course, block, lentOf, playFrom, fedOf}
 
 -- ---- calls that take no store
 -- a refusal, or 0, alone
@@ -122,3 +124,15 @@ playCall p a =
     let c = playedOf (a .kept) p (a .table) (a .acc) (a .store) (a .soft) in
     moved (playedTurn (a .kept) (c .told)) (a .table) (c .lent .acc ++ drop (at p 3) (a .acc)) (c .lent .store ++ drop (at p 4) (a .store))
     (c .lent .soft ++ drop (at p 5) (a .soft))
+
+-- the same symbols by one call of `feed`
+unfoldable pub fedBlock : Kept → List ℕ → List ℤ → Block
+fedBlock k p table = block (take (2 * leastOf (at p 1) 72) (symbolsOf (packedOf p))) (k .f) (k .s) (take (at p 2) table)
+
+unfoldable pub feedCall : List ℕ → All → Moved
+feedCall p a =
+    let b = fedBlock (a .kept) p (a .table) in
+    let l = lentOf (take (at p 3) (a .acc)) (take (at p 4) (a .store)) (take (at p 5) (a .soft)) in
+    let m = feedOf (a .kept .receiver) b l .lent in
+    moved (playedTurn (a .kept) (fedOf (feedAnswer (a .kept .receiver) b l))) (a .table) (m .acc ++ drop (at p 3) (a .acc)) (m .store ++ drop (at p 4) (a .store))
+    (m .soft ++ drop (at p 5) (a .soft))

@@ -11,6 +11,7 @@ use Rattle.receiver.specs.declared.Answer.{Answer}
 use Rattle.receiver.specs.Symbol.{Lent}
 use Rattle.receiver.specs.Answers.{noRuns, symbolAnswer, symbolLent}
 use Rattle.receiver.specs.Feed.{Block, inputAt, tellsAny}
+use Rattle.receiver_feed.specs.declared.Fed.{Fed}
 use Rattle.receiver_replay.specs.declared.play.Played.{Played}
 
 abbrev pub block : List ℤ → List ℤ → List ℤ → List ℤ → Block
@@ -52,3 +53,7 @@ playFrom b (suc k) i r l =
     let a = symbolAnswer r (inputAt b i) l in
     let m = symbolLent r (inputAt b i) l in
     if stopsAt a then course (stopped i a) m else playFrom b k (i + 1) (a .receiver) m
+
+-- ---- what one call of `feed` answers, as a play
+unfoldable pub fedOf : Fed → Played
+fedOf a = record { refusal = a .refusal; used = a .used; receiver = a .receiver; events = a .events; runs = a .runs }

@@ -9,7 +9,7 @@ use Rattle.wire.specs.Blocks.{replayed as replayedBy, left}
 use Rattle.eq_calls.specs.Given.{at}
 use Rattle.receiver_replay.specs.declared.kept.Kept.{Kept}
 use Rattle.receiver_replay.specs.declared.kept.Turn.{Turn}
-use Rattle.receiver_replay.specs.Calls.{All, Moved, moved, unmoved, plain, eqCall, wordsCall, pointsCall, tapsCall, openCall, endCall, eventCall, newTurn, newLeft, restartTurn, restartLeft, lookTurn, setOf, playCall}
+use Rattle.receiver_replay.specs.Calls.{All, Moved, moved, unmoved, plain, eqCall, wordsCall, pointsCall, tapsCall, openCall, endCall, eventCall, newTurn, newLeft, restartTurn, restartLeft, lookTurn, setOf, playCall, feedCall}
 
 -- ---- one call: number 0 tells which. In the order of the calls' numbers: those that take no store from 16 on, the others from 64 on.
 -- Refusal 255 where there is no such call
@@ -29,6 +29,7 @@ takers p a =
     ∷ unmoved a (lookTurn (a .kept) (a .acc) (a .store) (a .soft))
     ∷ moved (plain (a .kept) 0) (setOf p (a .table)) (a .acc) (a .store) (a .soft)
     ∷ playCall p a
+    ∷ feedCall p a
     ∷ []
 
 unfoldable pub storesOf : ℕ → List ℕ → All → Moved

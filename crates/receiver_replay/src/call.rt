@@ -55,6 +55,7 @@ fn with(
             calls::plain(k, 0)
         }
         4 => stores::play(k, p, table, acc, store, soft),
+        5 => stores::feed(k, p, table, acc, store, soft),
         _ => calls::plain(k, 255),
     }
 }

@@ -1,6 +1,7 @@
 // Symbols one by one, up to the first that tells anything or is refused.
 use receiver::Answer;
 use receiver::Receiver;
+use receiver_feed::Fed;
 use receiver_slot::AlignedRun;
 use receiver_slot::Runs;
 use sync_step::Event;
@@ -11,8 +12,9 @@ ghost use Prim.Native.Nat.{_*_, _+_, _≤_, _<_};
 ghost use lib.ListN.{length};
 ghost use Rattle.sync_step.specs.Events.{isNothing};
 ghost use Rattle.receiver.specs.Answers.{symbolAnswer, symbolLent};
-ghost use Rattle.receiver.specs.Feed.{Block, inputAt};
-ghost use Rattle.receiver_replay.specs.Play.{block, lentOf, stopsAt, stopped, quiet, playFrom};
+ghost use Rattle.receiver.specs.Feed.{Block, inputAt, feedOf};
+ghost use Rattle.receiver_feed.specs.Answers.{feedAnswer};
+ghost use Rattle.receiver_replay.specs.Play.{block, lentOf, stopsAt, stopped, quiet, playFrom, fedOf};
 
 // How many symbols were taken; receiver and what was told of the last, or of the one refused.
 pub struct Played {
@@ -105,6 +107,39 @@ fn one(
         × (lentOf (now (acc .exit)) (now (store .exit)) (now (soft .exit)) ≡ symbolLent r (inputAt (block (now (x .entry)) f s (now (table .entry))) i) (lentOf (now (acc .entry)) (now (store .entry)) (now (soft .entry)))) ⌝ }
 {
     receiver_symbol::symbol(r, x[2 * i], x[2 * i + 1], f, s, table, acc, store, soft)
+}
+
+fn fed(a: Fed) -> Played
+    ensures { λ p. ⌜ p ≡ fedOf a ⌝ }
+{
+    let n = a.receiver;
+    let e = a.events;
+    let w = a.runs;
+    Played {
+        refusal: a.refusal,
+        used: a.used,
+        receiver: n,
+        events: e,
+        runs: w,
+    }
+}
+
+// The same by one call of `feed`, which stops before a symbol that would be refused, unless that is the first.
+pub(crate) fn feed(
+    r: Receiver,
+    x: &[i8],
+    f: [i8; 48],
+    s: [i8; 48],
+    table: &[i16],
+    acc: &mut [u32],
+    store: &mut [i16],
+    soft: &mut [i8],
+) -> Played
+    ensures { λ a. ⌜ (a ≡ fedOf (feedAnswer r (block (now (x .entry)) f s (now (table .entry))) (lentOf (now (acc .entry)) (now (store .entry)) (now (soft .entry)))))
+        × (lentOf (now (acc .exit)) (now (store .exit)) (now (soft .exit)) ≡ feedOf r (block (now (x .entry)) f s (now (table .entry))) (lentOf (now (acc .entry)) (now (store .entry)) (now (soft .entry))) .lent) ⌝ }
+{
+    let a = receiver_feed::feed(r, x, f, s, table, acc, store, soft);
+    fed(a)
 }
 
 // The first n symbols of the block, or as many as are quiet and one more.

@@ -9,7 +9,7 @@ use crate::play;
 use crate::play::Played;
 use crate::told;
 ghost use mathlib.Core.Path.{_≡_};
-ghost use Rattle.receiver_replay.specs.Calls.{newTurn, newLeft, restartTurn, restartLeft, lookTurn, setOf, playedTurn, all, moved, playCall};
+ghost use Rattle.receiver_replay.specs.Calls.{newTurn, newLeft, restartTurn, restartLeft, lookTurn, setOf, playedTurn, all, moved, playCall, feedCall};
 
 pub(crate) fn new(k: Kept, p: &[u64; 24], acc: &mut [u32]) -> Turn
     ensures { λ r. ⌜ (r ≡ newTurn k (now (p .entry)) (now (acc .entry))) × (now (acc .exit) ≡ newLeft (now (p .entry)) (now (acc .entry))) ⌝ }
@@ -79,6 +79,41 @@ pub(crate) fn play(
         r,
         n,
         &x,
+        f,
+        s,
+        &table[..t],
+        &mut acc[..a],
+        &mut store[..b],
+        &mut soft[..c],
+    );
+    told(k, d)
+}
+
+// The same by `feed`.
+pub(crate) fn feed(
+    k: Kept,
+    p: &[u64; 24],
+    table: &[i16],
+    acc: &mut [u32],
+    store: &mut [i16],
+    soft: &mut [i8],
+) -> Turn
+    ensures { λ r. ⌜ moved r (now (table .entry)) (now (acc .exit)) (now (store .exit)) (now (soft .exit)) ≡ feedCall (now (p .entry)) (all k (now (table .entry)) (now (acc .entry)) (now (store .entry)) (now (soft .entry))) ⌝ }
+{
+    let bytes = wire::packed(p);
+    let x = given::symbols(&bytes);
+    let n = given::least(p[1], 72);
+    let m = 2 * n;
+    let t = given::least(p[2], table.len());
+    let a = given::least(p[3], acc.len());
+    let b = given::least(p[4], store.len());
+    let c = given::least(p[5], soft.len());
+    let r = k.receiver;
+    let f = k.f;
+    let s = k.s;
+    let d = play::feed(
+        r,
+        &x[..m],
         f,
         s,
         &table[..t],

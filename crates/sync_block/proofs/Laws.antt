@@ -49,7 +49,7 @@ use lib.Seq.{getD-drop}
 use Rattle.sync_step.specs.declared.Event.the-variants.{Nothing}
 
 -- ---- one quiet symbol
-abbrev silent : Run → Taken
+abbrev pub silent : Run → Taken
 silent r = record { lost = false; stage = r .stage; course = r .course; first = NoHead; second = NoHead }
 
 taken-quiet : (n : ℕ) (r : Run) (p : ℕ) (b : Both) → lockedAt (r .lock) p ≡ false → stepTaken n r p b ≡ silent r
@@ -61,13 +61,13 @@ late-quiet : (n : ℕ) (r : Run) (b : Both) (a p : ℕ) → placeOf n (r .t) ≡
 unfolding lateOf
 late-quiet n r b a p ep el ee = rw (ep, taken-quiet n r p b el) (if-no false _ _ refl ∙ if-no (eqb p (n - 1)) _ _ ee)
 
-abbrev bothAt : SlotSync → ℤ → ℤ → List ℤ → List ℤ → Both
+abbrev pub bothAt : SlotSync → ℤ → ℤ → List ℤ → List ℤ → Both
 bothAt s i q f w = bothOf (windowAfter (s .win) i q) f w
 
-abbrev levelAt : SlotSync → ℤ → ℤ → List ℤ → List ℤ → List ℕ → ℕ → ℕ
+abbrev pub levelAt : SlotSync → ℤ → ℤ → List ℤ → List ℤ → List ℕ → ℕ → ℕ
 levelAt s i q f w acc p = leakOf (getD acc p 0) (sizeOf (bothAt s i q f w))
 
-symbol-quiet : (s : SlotSync) (i q : ℤ) (f w : List ℤ) (acc : List ℕ) (p : ℕ) →
+pub symbol-quiet : (s : SlotSync) (i q : ℤ) (f w : List ℤ) (acc : List ℕ) (p : ℕ) →
     23 ≤ s .run .t → placeOf 9296 (s .run .t) ≡ p → lockedAt (s .run .lock) p ≡ false → p < 9295 →
     symbolOf 9296 s i q f w acc
     ≡ keptOf (afterOf (s .run) p (levelAt s i q f w acc p) (silent (s .run))) (record { both = bothAt s i q f w; level = levelAt s i q f w acc p }) (headsOf (silent (s .run)))
@@ -104,7 +104,7 @@ unfolding acceptedAcc keptOf storedOf
 stored-quiet s i q f w acc p h ep el l = rw (symbol-quiet s i q f w acc p h ep el l, ep)
 
 -- ---- quiet symbols one after the other
-place-on : (t n : ℕ) → 23 ≤ t → placeOf 9296 t + n < 9296 → placeOf 9296 (t + n) ≡ placeOf 9296 t + n
+pub place-on : (t n : ℕ) → 23 ≤ t → placeOf 9296 t + n < 9296 → placeOf 9296 (t + n) ≡ placeOf 9296 t + n
 unfolding placeOf
 place-on t n h l = omega arith
 

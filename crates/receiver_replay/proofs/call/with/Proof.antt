@@ -25,6 +25,9 @@ plain-requires c κs = search needs
 play-requires : tie.Need-play-requires
 play-requires c κs = search needs
 
+feed-requires : tie.Need-feed-requires
+feed-requires c κs = search needs
+
 plain-requires-2 : tie.Need-plain-requires-2
 plain-requires-2 c κs = search needs
 
@@ -78,8 +81,24 @@ returns-5 : tie.Need-returns-5
 unfolding storesOf
 returns-5 c = rw (c .before .before .before .before .before .before .before .before .before .match .keys5, c .before .before .before .before .play .ensures)
 
+same-length-11 : tie.Need-same-length-11
+same-length-11 c = search needs
+
+same-length-12 : tie.Need-same-length-12
+same-length-12 c = search needs
+
+same-length-13 : tie.Need-same-length-13
+same-length-13 c = search needs
+
+same-length-14 : tie.Need-same-length-14
+same-length-14 c = search needs
+
 returns-6 : tie.Need-returns-6
-returns-6 c = rw (c .plain2 .ensures) (stores-none (c .before .before .before .args .n) (c .before .before .before .args .p .now) _ (past 5 _ (c .before .match .rest)))
+unfolding storesOf
+returns-6 c = rw (c .before .before .before .before .before .before .before .before .before .match .keys6, c .before .before .before .before .feed .ensures)
+
+returns-7 : tie.Need-returns-7
+returns-7 c = rw (c .plain2 .ensures) (stores-none (c .before .before .before .args .n) (c .before .before .before .args .p .now) _ (past 6 _ (c .before .match .rest)))
 
 pub with-spec : {M : Type 1} → statement M
 with-spec =
@@ -91,6 +110,7 @@ with-spec =
     set-requires
     plain-requires
     play-requires
+    feed-requires
     plain-requires-2
     same-length
     returns
@@ -107,4 +127,9 @@ with-spec =
     same-length-9
     same-length-10
     returns-5
-    returns-6)
+    same-length-11
+    same-length-12
+    same-length-13
+    same-length-14
+    returns-6
+    returns-7)

@@ -1,0 +1,238 @@
+// A feed by turns: a stretch of symbols that tell nothing, or one symbol.
+use crate::Fed;
+use crate::Turn;
+use crate::ready;
+use crate::stretch;
+use receiver::Answer;
+use receiver::Receiver;
+use receiver_slot::AlignedRun;
+use receiver_slot::Runs;
+use sync_step::Event;
+use sync_step::Events;
+ghost use mathlib.Core.Path.{_≡_};
+ghost use mathlib.Core.Bool.{Bool, not};
+ghost use Prim.Native.Nat.{_+_, _-_, _*_, _/_, _≤_, _<_, _^_};
+ghost use lib.ListN.{length};
+ghost use Rattle.laws.specs.Choice.{if_then_else_};
+ghost use Rattle.sync_corr.specs.Rows.{rowsOf};
+ghost use Rattle.sync_step.specs.Events.{isNothing, noEvents};
+ghost use Rattle.receiver.specs.Answers.{noRuns};
+ghost use Rattle.receiver.specs.Feed.{anyEvent, tellsAny};
+ghost use Rattle.receiver_feed.specs.Turns.{Leads, Stands, answerOf, refusedFeed, restBy, standFrom, toldBy};
+
+fn is_event(e: Event) -> bool
+    ensures { λ r. ⌜ r ≡ not (isNothing e) ⌝ }
+{
+    match e {
+        Event::Nothing => false,
+        Event::Head(_) => true,
+        Event::Period(_) => true,
+        Event::Lost(_) => true,
+    }
+}
+
+fn any_event(es: Events) -> bool
+    ensures { λ r. ⌜ r ≡ anyEvent es ⌝ }
+{
+    let a = es.first;
+    let b = es.second;
+    let c = es.third;
+    is_event(a) | is_event(b) | is_event(c)
+}
+
+// Whether an answer tells an event or aligned symbols.
+fn tells(a: Answer) -> bool
+    ensures { λ r. ⌜ r ≡ tellsAny a ⌝ }
+{
+    let es = a.events;
+    let t = a.runs.tail;
+    let b = a.runs.body;
+    any_event(es) | (t.count != 0) | (b.count != 0)
+}
+
+// Symbol i was given to its call.
+fn told(a: Answer, i: usize) -> Turn
+    requires { ⌜ i < 2 ^ 63 ⌝ }
+    ensures { λ t. ⌜ t ≡ toldBy a i ⌝ }
+{
+    let n = a.refusal;
+    let r = a.receiver;
+    let es = a.events;
+    let runs = a.runs;
+    if n == 0 {
+        Turn {
+            refusal: 0,
+            used: i + 1,
+            receiver: r,
+            events: es,
+            runs: runs,
+            done: tells(a),
+        }
+    } else {
+        Turn {
+            refusal: n,
+            used: i,
+            receiver: r,
+            events: es,
+            runs: runs,
+            done: true,
+        }
+    }
+}
+
+fn no_events() -> Events
+    ensures { λ r. ⌜ r ≡ noEvents ⌝ }
+{
+    Events {
+        first: Event::Nothing,
+        second: Event::Nothing,
+        third: Event::Nothing,
+    }
+}
+
+fn no_runs() -> Runs
+    ensures { λ r. ⌜ r ≡ noRuns ⌝ }
+{
+    let none = AlignedRun {
+        at: 0,
+        j: 0,
+        count: 0,
+        bits: 0,
+    };
+    Runs {
+        tail: none,
+        body: none,
+    }
+}
+
+// At symbol i of n.
+fn turn(
+    r: Receiver,
+    i: usize,
+    n: usize,
+    bytes: &[i8],
+    f: [i8; 48],
+    s: [i8; 48],
+    rows: &[i16; 192],
+    table: &[i16],
+    acc: &mut [u32],
+    store: &mut [i16],
+    soft: &mut [i8],
+) -> Turn
+    requires { ⌜ (i < n) × (n ≡ length (now bytes) / 2) × (now rows ≡ rowsOf f s) × (Stands (length (now acc)) (length (now store)) (length (now soft)) f s (length (now table))) ⌝ }
+    ensures { λ t. ⌜ (restBy (record { bytes = now (bytes .entry); f = f; s = s; table = now (table .entry) }) n t (record { acc = now (acc .exit); store = now (store .exit); soft = now (soft .exit) }) ≡ standFrom (record { bytes = now (bytes .entry); f = f; s = s; table = now (table .entry) }) (n - i) i r (record { acc = now (acc .entry); store = now (store .entry); soft = now (soft .entry) })) × (Leads n i t) ⌝ }
+{
+    let m = ready::calm(r, n - i);
+    if m == 0 {
+        let a = receiver_symbol::symbol(
+            r,
+            bytes[2 * i],
+            bytes[2 * i + 1],
+            f,
+            s,
+            table,
+            acc,
+            store,
+            soft,
+        );
+        told(a, i)
+    } else {
+        let p = stretch::stretch(r, bytes, i, m, rows, table, acc, store);
+        let x = p.receiver;
+        Turn {
+            refusal: 0,
+            used: i + p.taken,
+            receiver: x,
+            events: no_events(),
+            runs: no_runs(),
+            done: false,
+        }
+    }
+}
+
+// n, or where a turn stops the feed.
+fn until(t: Turn, n: usize) -> usize
+    ensures { λ r. ⌜ r ≡ (if t .done then t .used else n) ⌝ }
+{
+    let d = t.done;
+    let u = t.used;
+    if d { u } else { n }
+}
+
+// All turns.
+pub(crate) fn all(
+    r: Receiver,
+    bytes: &[i8],
+    f: [i8; 48],
+    s: [i8; 48],
+    rows: &[i16; 192],
+    table: &[i16],
+    acc: &mut [u32],
+    store: &mut [i16],
+    soft: &mut [i8],
+) -> Turn
+    requires { ⌜ (now rows ≡ rowsOf f s) × (Stands (length (now acc)) (length (now store)) (length (now soft)) f s (length (now table))) ⌝ }
+    ensures { λ t. ⌜ restBy (record { bytes = now (bytes .entry); f = f; s = s; table = now (table .entry) }) (t .used) t (record { acc = now (acc .exit); store = now (store .exit); soft = now (soft .exit) }) ≡ standFrom (record { bytes = now (bytes .entry); f = f; s = s; table = now (table .entry) }) (length (now (bytes .entry)) / 2) 0 r (record { acc = now (acc .entry); store = now (store .entry); soft = now (soft .entry) }) ⌝ }
+{
+    let n = bytes.len() / 2;
+    let mut t = Turn {
+        refusal: 0,
+        used: 0,
+        receiver: r,
+        events: no_events(),
+        runs: no_runs(),
+        done: false,
+    };
+    let mut i: usize = 0;
+    let mut end = n;
+    while i < end {
+        let x = t.receiver;
+        t = turn(x, i, n, bytes, f, s, rows, table, acc, store, soft);
+        i = t.used;
+        end = until(t, n);
+    }
+    t
+}
+
+// The answer after the last turn: the number that stops a feed is told if nothing was used.
+pub(crate) fn answer(t: Turn) -> Fed
+    ensures { λ a. ⌜ a ≡ answerOf t ⌝ }
+{
+    let n = t.refusal;
+    let u = t.used;
+    let r = t.receiver;
+    let es = t.events;
+    let runs = t.runs;
+    let d = t.done;
+    if d {
+        let k = if u == 0 { n } else { 0 };
+        Fed {
+            refusal: k,
+            used: u,
+            receiver: r,
+            events: es,
+            runs: runs,
+        }
+    } else {
+        Fed {
+            refusal: 0,
+            used: u,
+            receiver: r,
+            events: no_events(),
+            runs: no_runs(),
+        }
+    }
+}
+
+// The receiver as it was handed in, and nothing told.
+pub(crate) fn refused(n: u8, r: Receiver) -> Fed
+    ensures { λ a. ⌜ a ≡ refusedFeed n r ⌝ }
+{
+    Fed {
+        refusal: n,
+        used: 0,
+        receiver: r,
+        events: no_events(),
+        runs: no_runs(),
+    }
+}
