@@ -21,7 +21,7 @@ use native.Mathlib.Omega.{arith}
 firsts-at : (f : ℕ → ℤ) (n k : ℕ) → k < n → nth (firsts f n) k ≡ f k
 firsts-at f n k h = sym (ap (λ (l : List ℤ). nth l k) (append-nil (firsts f n))) ∙ getD-firsts f (pos 0) n [] k h
 
-padded-at : (l : List ℤ) (k : ℕ) → k < 24 → nth (padded l) k ≡ nth l k
+pub padded-at : (l : List ℤ) (k : ℕ) → k < 24 → nth (padded l) k ≡ nth l k
 unfolding padded
 padded-at l k h = firsts-at (nth l) 24 k h
 
@@ -102,33 +102,33 @@ even n = eq-eqb ((2 * n) % 2) 0 (omega arith)
 odd : (n : ℕ) → eqb ((2 * n + 1) % 2) 0 ≡ false
 odd n = ne-eqb ((2 * n + 1) % 2) 0 (omega arith)
 
-real-even : (taps : List ℤ) (high : Bool) (k : ℕ) → k < 24 → eqb (k % 2) 0 ≡ true → factorAt (padded taps) false high k ≡ byteOf high (nth taps k)
+pub real-even : (taps : List ℤ) (high : Bool) (k : ℕ) → k < 24 → eqb (k % 2) 0 ≡ true → factorAt (padded taps) false high k ≡ byteOf high (nth taps k)
 unfolding factorAt
 real-even taps high k h e = if-no false _ _ refl ∙ if-yes (eqb (k % 2) 0) _ _ e ∙ ap (byteOf high) (padded-at taps k h)
 
-real-odd : (taps : List ℤ) (high : Bool) (k : ℕ) → k < 24 → eqb (k % 2) 0 ≡ false → factorAt (padded taps) false high k ≡ negℤ (byteOf high (nth taps k))
+pub real-odd : (taps : List ℤ) (high : Bool) (k : ℕ) → k < 24 → eqb (k % 2) 0 ≡ false → factorAt (padded taps) false high k ≡ negℤ (byteOf high (nth taps k))
 unfolding factorAt
 real-odd taps high k h e = if-no false _ _ refl ∙ if-no (eqb (k % 2) 0) _ _ e ∙ ap (λ (z : ℤ). negℤ (byteOf high z)) (padded-at taps k h)
 
-imag-even : (taps : List ℤ) (high : Bool) (k : ℕ) → k + 1 < 24 → eqb (k % 2) 0 ≡ true → factorAt (padded taps) true high k ≡ byteOf high (nth taps (k + 1))
+pub imag-even : (taps : List ℤ) (high : Bool) (k : ℕ) → k + 1 < 24 → eqb (k % 2) 0 ≡ true → factorAt (padded taps) true high k ≡ byteOf high (nth taps (k + 1))
 unfolding factorAt
 imag-even taps high k h e = if-yes true _ _ refl ∙ if-yes (eqb (k % 2) 0) _ _ e ∙ ap (byteOf high) (padded-at taps (k + 1) h)
 
-imag-odd : (taps : List ℤ) (high : Bool) (k : ℕ) → k < 24 → eqb (k % 2) 0 ≡ false → factorAt (padded taps) true high k ≡ byteOf high (nth taps (k - 1))
+pub imag-odd : (taps : List ℤ) (high : Bool) (k : ℕ) → k < 24 → eqb (k % 2) 0 ≡ false → factorAt (padded taps) true high k ≡ byteOf high (nth taps (k - 1))
 unfolding factorAt
 imag-odd taps high k h e = if-yes true _ _ refl ∙ if-no (eqb (k % 2) 0) _ _ e ∙ ap (byteOf high) (padded-at taps (k - 1) (omega arith))
 
 -- the four rows, at k below 24
-rh-at : (taps : List ℤ) (k : ℕ) → k < 24 → nth (rowsOf taps) (0 + k) ≡ factorAt (padded taps) false true k
+pub rh-at : (taps : List ℤ) (k : ℕ) → k < 24 → nth (rowsOf taps) (0 + k) ≡ factorAt (padded taps) false true k
 rh-at taps k h = row-at taps false true 0 k (omega arith) (lt-leb 48 (0 + k) (omega arith)) (eq-eqb ((0 + k) / 24 % 2) 0 (omega arith)) (omega arith)
 
-rl-at : (taps : List ℤ) (k : ℕ) → k < 24 → nth (rowsOf taps) (24 + k) ≡ factorAt (padded taps) false false k
+pub rl-at : (taps : List ℤ) (k : ℕ) → k < 24 → nth (rowsOf taps) (24 + k) ≡ factorAt (padded taps) false false k
 rl-at taps k h = row-at taps false false 24 k (omega arith) (lt-leb 48 (24 + k) (omega arith)) (ne-eqb ((24 + k) / 24 % 2) 0 (omega arith)) (omega arith)
 
-ih-at : (taps : List ℤ) (k : ℕ) → k < 24 → nth (rowsOf taps) (48 + k) ≡ factorAt (padded taps) true true k
+pub ih-at : (taps : List ℤ) (k : ℕ) → k < 24 → nth (rowsOf taps) (48 + k) ≡ factorAt (padded taps) true true k
 ih-at taps k h = row-at taps true true 48 k (omega arith) (le-leb 48 (48 + k) (omega arith)) (eq-eqb ((48 + k) / 24 % 2) 0 (omega arith)) (omega arith)
 
-il-at : (taps : List ℤ) (k : ℕ) → k < 24 → nth (rowsOf taps) (72 + k) ≡ factorAt (padded taps) true false k
+pub il-at : (taps : List ℤ) (k : ℕ) → k < 24 → nth (rowsOf taps) (72 + k) ≡ factorAt (padded taps) true false k
 il-at taps k h = row-at taps true false 72 k (omega arith) (le-leb 48 (72 + k) (omega arith)) (ne-eqb ((72 + k) / 24 % 2) 0 (omega arith)) (omega arith)
 
 together : {h l : ℤ} (x y : ℤ) → h ≡ x → l ≡ y → h *ℤ pos 256 +ℤ l ≡ x *ℤ pos 256 +ℤ y

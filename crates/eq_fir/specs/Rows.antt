@@ -1,9 +1,11 @@
 -- How the filter is computed for many symbols: each number of the taps is split into a high and a low byte, and each part of an output is two sums
 -- of products of the line with a row of such bytes. That this is the filter is a law (proofs/Filter.antt, `rows-output`).
-use Prim.Native.Nat.{ℕ, zero, suc, _+_, _-_, _/_, _%_, _≤_, _<_}
+use Prim.Native.Nat.{ℕ, zero, suc, _+_, _-_, _*_, _/_, _%_, _≤_, _<_}
 use mathlib.Core.Bool.{Bool}
 use mathlib.Core.List.{List}
+use mathlib.Core.Path.{_≡_}
 use lib.Dec.{eqb, leb}
+use lib.ListN.{drop}
 use lib.IntN.{ℤ, pos, natAbs, negℤ, _+ℤ_, _-ℤ_, _*ℤ_}
 use lib.Signed.{shrZ}
 use Rattle.laws.specs.Choice.{if_then_else_}
@@ -49,6 +51,19 @@ outputBy rows line =
     let s = dotsOf (padded line) rows in
     record { i = finishedOf (s .rh) (s .rl); q = finishedOf (s .ih) (s .il) }
 
+-- number j of the outputs for lines within a buffer: the first begins at end, each of the others one symbol before the last
+unfoldable pub outputsBy : List ℤ → List ℤ → ℕ → ℕ → ℤ
+outputsBy rows buffer end j =
+    let z = outputBy rows (drop (end - 2 * (j / 2)) buffer) in
+    if eqb (j % 2) 0 then z .i else z .q
+
 -- the entries are bytes
 pub record Bytes (rows : List ℤ) : Type 0 where
   pub small : (j : ℕ) → j < 96 → natAbs (nth rows j) ≤ 255
+
+-- the last two of each row meet no tap: they are zeros
+pub record Ends (rows : List ℤ) : Type 0 where
+  pub rh : (nth rows 22 ≡ pos 0) × (nth rows 23 ≡ pos 0)
+  pub rl : (nth rows 46 ≡ pos 0) × (nth rows 47 ≡ pos 0)
+  pub ih : (nth rows 70 ≡ pos 0) × (nth rows 71 ≡ pos 0)
+  pub il : (nth rows 94 ≡ pos 0) × (nth rows 95 ≡ pos 0)

@@ -2,11 +2,13 @@
 // the compiler makes vectors.
 use crate::Dots;
 use angles::Symbol;
+ghost use mathlib.Core.List.{_++_};
 ghost use mathlib.Core.Path.{_≡_};
-ghost use Prim.Native.Nat.{_+_, _≤_, _<_, _^_};
+ghost use Prim.Native.Nat.{_+_, _*_, _≤_, _<_, _^_};
 ghost use lib.IntN.{natAbs, _+ℤ_, _*ℤ_};
-ghost use lib.ListN.{length};
-ghost use Rattle.eq_fir.specs.Rows.{byteOf, factorAt, padded, rowsOf, dotsOf, finishedOf, outputBy, Bytes};
+ghost use lib.ListN.{length, drop};
+ghost use Rattle.laws.specs.Ranges.{firsts};
+ghost use Rattle.eq_fir.specs.Rows.{byteOf, factorAt, padded, rowsOf, dotsOf, finishedOf, outputBy, outputsBy, Bytes};
 
 // The high or the low byte.
 fn byte(high: bool, w: i16) -> i16
@@ -116,5 +118,64 @@ pub fn output(rows: &[i16; 96], line: &[i16; 22]) -> Symbol
     Symbol {
         i: finished(a, b),
         q: finished(c, d),
+    }
+}
+
+// All four sums of the 24 numbers from a place of a buffer on.
+fn dots_at(l: &[i16], at: usize, rows: &[i16; 96]) -> Dots
+    requires { ⌜ Bytes (now rows) × (at + 24 ≤ length (now l)) ⌝ }
+    ensures { λ r. ⌜ r ≡ dotsOf (padded (drop at (now (l .entry)))) (now (rows .entry)) ⌝ }
+{
+    let mut a: i32 = 0;
+    let mut b: i32 = 0;
+    let mut c: i32 = 0;
+    let mut d: i32 = 0;
+    let mut k: usize = 0;
+    while k < 24 {
+        let x = l[at + k];
+        a = added(a, x, rows[k]);
+        b = added(b, x, rows[24 + k]);
+        c = added(c, x, rows[48 + k]);
+        d = added(d, x, rows[72 + k]);
+        k += 1;
+    }
+    Dots {
+        rh: a,
+        rl: b,
+        ih: c,
+        il: d,
+    }
+}
+
+// The output for the line that begins at a place of a buffer. What stands behind the line is multiplied by the rows' last two.
+fn output_at(rows: &[i16; 96], l: &[i16], at: usize) -> Symbol
+    requires { ⌜ Bytes (now rows) × (at + 24 ≤ length (now l)) ⌝ }
+    ensures { λ r. ⌜ r ≡ outputBy (now (rows .entry)) (drop at (now (l .entry))) ⌝ }
+{
+    let s = dots_at(l, at, rows);
+    let a = s.rh;
+    let b = s.rl;
+    let c = s.ih;
+    let d = s.il;
+    Symbol {
+        i: finished(a, b),
+        q: finished(c, d),
+    }
+}
+
+// The outputs for n lines within a buffer. No line is moved, so that none is read right after it was written, which costs more than the
+// products.
+pub fn outputs(rows: &[i16; 96], l: &[i16], end: usize, n: usize, out: &mut [i16])
+    requires { ⌜ Bytes (now rows) × (end + 24 ≤ length (now l)) × (2 * n ≤ end + 2) × (2 * n ≤ length (now out)) ⌝ }
+    ensures { λ r. ⌜ now (out .exit) ≡ firsts (outputsBy (now (rows .entry)) (now (l .entry)) end) (2 * n) ++ drop (2 * n) (now (out .entry)) ⌝ }
+{
+    let mut k: usize = 0;
+    while k < n {
+        let z = output_at(rows, l, end - 2 * k);
+        let i = z.i;
+        let q = z.q;
+        out[2 * k] = i;
+        out[2 * k + 1] = q;
+        k += 1;
     }
 }

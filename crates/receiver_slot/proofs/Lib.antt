@@ -9,3 +9,5 @@ pub mod Filling
 pub mod Full
 pub mod Settled
 pub mod Rest
+pub mod Ahead
+pub mod Stretches

@@ -1,12 +1,11 @@
 -- The rest of a slot by the line alone, one step at a time. Assumes nothing.
-use Prim.Native.Nat.{ℕ, zero, suc, _+_, _-_, _≤_, _<_}
+use Prim.Native.Nat.{ℕ, zero, suc, _+_, _-_, _≤_}
 use mathlib.Core.List.{List, [], _++_}
-use mathlib.Core.Path.{_≡_, refl, ap, subst, _∙_}
+use mathlib.Core.Path.{_≡_, refl, ap, subst}
 use native.Mathlib.Numerals.{add-one}
 use native.Mathlib.Omega.{arith}
 use lib.IntN.{ℤ}
 use lib.ListN.{length, length-append, length-take}
-use Rattle.phase.specs.declared.Corrected.{Corrected}
 use Rattle.phase.specs.declared.WholeSlot.{WholeSlot}
 use Rattle.phase.specs.Phase.{correctedOf}
 use Rattle.eq_fir.specs.Fir.{lineAfter}
@@ -14,8 +13,7 @@ use Rattle.eq_fir.specs.Rows.{outputBy}
 use Rattle.frame_map.specs.Map.{partOf}
 use Rattle.receiver_slot.specs.declared.Points.{Points}
 use Rattle.receiver_slot.specs.Slot.{softOf}
-use Rattle.receiver_slot.specs.Steps.{lineOn, putAt, softOn}
-use Rattle.receiver_slot.proofs.Steps.{put-more}
+use Rattle.receiver_slot.specs.Steps.{lineOn, softOn}
 
 line-after : (line : List ℤ) (i q : ℤ) → length line ≡ 22 → length (lineAfter line i q) ≡ 22
 unfolding lineAfter
@@ -45,10 +43,6 @@ module _ (p : Points) (rows line : List ℤ) (w : WholeSlot) (table store : List
   line-long h zero = h
   line-long h (suc k) = let y = correctedOf w table store (29 + k) .y in line-after (lines k) (y .i) (y .q) (line-long h k)
 
-  pub line-turn : (k : ℕ) (l m : List ℤ) (c : Corrected) → l ≡ lines k → c ≡ correctedOf w table store (29 + k) → m ≡ lineAfter l (c .y .i) (c .y .q) → m ≡ lines (k + 1)
-  unfolding lineOn
-  line-turn k l m c e h g = g ∙ rw (e, h, add-one k)
-
   softs-step : (k : ℕ) → softs (k + 1) ≡ softs k ++ out k
   unfolding softOn
   softs-step k = rw (add-one k)
@@ -61,14 +55,3 @@ module _ (p : Points) (rows line : List ℤ) (w : WholeSlot) (table store : List
 
   pub softs-room : (k : ℕ) → k ≤ 9267 → length (softs k) ≤ length (softs 9267)
   softs-room k h = grows (9267 - k) k 9267 (omega (arith, h))
-
-  pub softs-next : (k : ℕ) → k < 9267 → length (softs k) + length (out k) ≤ length (softs 9267)
-  softs-next k h =
-      omega (arith, softs-room (k + 1) (omega (arith, h)), ap {B = ℕ} (λ (l : List ℤ). length l) (softs-step k), length-append (softs k) (out k))
-
-  pub place-turn : (k place o : ℕ) → o ≡ place + length (softs k) → o + length (out k) ≡ place + length (softs (k + 1))
-  place-turn k place o e = omega (arith, e, ap {B = ℕ} (λ (l : List ℤ). length l) (softs-step k), length-append (softs k) (out k))
-
-  pub soft-turn : (k place o : ℕ) (soft old : List ℤ) → place ≤ length old → o ≡ place + length (softs k) → soft ≡ putAt place (softs k) old →
-      putAt o (out k) soft ≡ putAt place (softs (k + 1)) old
-  soft-turn k place o soft old h e g = rw (e, g, softs-step k) (put-more place (softs k) (out k) old h)

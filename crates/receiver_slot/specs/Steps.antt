@@ -1,16 +1,17 @@
 -- What the private functions promise: the alignment after n symbols of a slot, and places of the buffer.
-use Prim.Native.Nat.{ℕ, zero, suc, _+_, _≤_, _^_}
+use Prim.Native.Nat.{ℕ, zero, suc, _+_, _-_, _*_, _/_, _%_, _≤_, _^_}
 use mathlib.Core.Path.{_≡_}
-use mathlib.Core.List.{List, [], _++_}
+use mathlib.Core.List.{List, [], _∷_, _++_}
 use lib.Dec.{eqb}
-use lib.IntN.{ℤ}
+use lib.IntN.{ℤ, pos}
 use lib.ListN.{length, take, drop}
 use Rattle.laws.specs.Choice.{if_then_else_}
+use Rattle.laws.specs.Ranges.{firsts}
 use Rattle.phase.specs.declared.WholeSlot.{WholeSlot}
 use Rattle.phase.specs.Phase.{correctedOf}
 use Rattle.sync_heads.specs.declared.Head.{Head}
 use Rattle.eq_fir.specs.Fir.{lineAfter}
-use Rattle.eq_fir.specs.Rows.{Bytes, outputBy}
+use Rattle.eq_fir.specs.Rows.{Bytes, Ends, outputBy}
 use Rattle.frame_map.specs.Map.{partOf}
 use Rattle.phase.specs.Ranges.{WholeOk}
 use Rattle.frame_line.specs.declared.LastAt.the-variants.{At}
@@ -23,6 +24,7 @@ use Rattle.frame.specs.Stretch.{afterAll}
 use Rattle.receiver_slot.specs.declared.Points.{Points}
 use Rattle.receiver_slot.specs.declared.AlignedRun.{AlignedRun}
 use Rattle.receiver_slot.specs.declared.Runs.{Runs}
+use Rattle.receiver_slot.specs.declared.Stretch.{Stretch}
 use Rattle.receiver_slot.specs.Slot.{correctedAll, alignedAll, softAll, softOf, noRun}
 use Rattle.receiver_slot.specs.Ranges.{PointsOk}
 
@@ -60,6 +62,47 @@ softOn zero p rows line w table store = []
 softOn (suc k) p rows line w table store =
     softOn k p rows line w table store ++ softOf (partOf (24 + k)) p (outputBy rows (lineOn (suc k) line w table store))
 
+-- ---- the same in groups of symbols: their lines stand in one list
+-- a line, with two zeros more
+unfoldable pub behindOf : List ℤ → List ℤ
+behindOf line = line ++ (pos 0 ∷ pos 0 ∷ [])
+
+-- the symbols 29 + k to 28 + k + n in front of it, the newest first
+unfoldable pub aheadOn : ℕ → ℕ → List ℤ → WholeSlot → List ℤ → List ℤ → List ℤ
+aheadOn k zero behind w table store = behind
+aheadOn k (suc n) behind w table store =
+    let y = correctedOf w table store (29 + (k + n)) .y in
+    y .i ∷ y .q ∷ aheadOn k n behind w table store
+
+-- what the first m of them give, as pairs: number j
+unfoldable pub outOn : ℕ → List ℤ → List ℤ → WholeSlot → List ℤ → List ℤ → ℕ → ℤ
+outOn k rows line w table store j =
+    let z = outputBy rows (aheadOn k (j / 2 + 1) (behindOf line) w table store) in
+    if eqb (j % 2) 0 then z .i else z .q
+
+unfoldable pub outsOn : ℕ → ℕ → List ℤ → List ℤ → WholeSlot → List ℤ → List ℤ → List ℤ
+outsOn k m rows line w table store = firsts (outOn k rows line w table store) (2 * m)
+
+-- the groups but for the last, 135 symbols from 9,132 on: the 32 symbols that let out pilots, then 136 main symbols and 4 of TMCC at a time
+unfoldable pub stretchOf : ℕ → Stretch
+stretchOf g = if eqb g 0 then record { from = 0; symbols = 32; mains = 0 } else record { from = 140 * g - 108; symbols = 140; mains = 136 }
+
+-- what a group of n symbols needs, the first m of which let out main symbols
+pub record GroupOk (line z rows : List ℤ) (w : WholeSlot) (p : Points) (k n m o : ℕ) (table store soft : List ℤ) : Type 0 where
+  pub line-long : length line ≡ 22
+  pub outs : 2 * m ≤ length z
+  pub bytes : Bytes rows
+  pub whole : WholeOk w
+  pub accepted : w .head .at + 9296 ≤ 2 ^ 62
+  pub points : PointsOk p
+  pub cosines : length table ≡ 1024
+  pub held : length store ≡ 18592
+  pub within : 29 + (k + n) ≤ 9296
+  pub few : n ≤ 140
+  pub fewer : m ≤ n
+  pub most : m ≤ 136
+  pub room : o + m * p .bits ≤ length soft
+
 -- what symbol j of a head's slot comes out with
 unfoldable pub metaAt : Head → ℕ → Meta
 metaAt h j = record { at = h .at + j; j = j; word = h .word; slot = h .slot }
@@ -84,6 +127,7 @@ endedOf b line h =
 pub record RestOk (line rows : List ℤ) (w : WholeSlot) (p : Points) (place : ℕ) (table store soft : List ℤ) : Type 0 where
   pub line-long : length line ≡ 22
   pub bytes : Bytes rows
+  pub ends : Ends rows
   pub whole : WholeOk w
   pub accepted : w .head .at + 9296 ≤ 2 ^ 62
   pub points : PointsOk p

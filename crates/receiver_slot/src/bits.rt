@@ -5,11 +5,10 @@ use frame::Aligned;
 use frame::AlignedSymbol;
 use frame_map::SlotPart;
 ghost use mathlib.Core.Path.{_≡_};
-ghost use Prim.Native.Nat.{_+_, _*_, _≤_, _<_, _^_};
+ghost use Prim.Native.Nat.{_+_, _*_, _/_, _≤_, _<_, _^_};
 ghost use lib.IntN.{pos};
 ghost use lib.ListN.{length};
-ghost use Rattle.demap.specs.Demap.{labelMetric, softBits};
-ghost use Rattle.eq_fir.specs.Rows.{Bytes, outputBy};
+ghost use Rattle.demap.specs.Demap.{labelMetric, softBits, blockBits};
 ghost use Rattle.frame_map.specs.Map.{partOf};
 ghost use Rattle.receiver_slot.specs.Slot.{alignedBy, softOf, softAll};
 ghost use Rattle.receiver_slot.specs.Ranges.{PointsOk};
@@ -64,26 +63,19 @@ pub(crate) fn told(p: Points, out: Aligned, o: usize, soft: &mut [i8]) -> usize
     }
 }
 
-// The soft bits of what a line gives at place j of the slot; where there are none, the filter is left out.
-pub(crate) fn output(
-    p: Points,
-    rows: &[i16; 96],
-    line: &[i16; 22],
-    j: usize,
-    o: usize,
-    soft: &mut [i8],
-) -> usize
-    requires { ⌜ (PointsOk p) × (Bytes (now rows)) × (length (now line) ≡ 22) × (o + length (softOf (partOf j) p (outputBy (now rows) (now line))) ≤ length (now soft)) ⌝ }
-    ensures { λ r. ⌜ (r ≡ o + length (softOf (partOf j) p (outputBy (now (rows .entry)) (now (line .entry))))) × (now (soft .exit) ≡ putAt o (softOf (partOf j) p (outputBy (now (rows .entry)) (now (line .entry)))) (now (soft .entry))) ⌝ }
+// The soft bits of equalised main symbols, pairs of I and Q, one behind the other.
+pub(crate) fn main_symbols(p: Points, z: &[i16], o: usize, soft: &mut [i8]) -> usize
+    requires { ⌜ (PointsOk p) × (o + length (now z) / 2 * p .bits ≤ length (now soft)) × (length (now z) ≤ 272) ⌝ }
+    ensures { λ r. ⌜ (r ≡ o + length (now (z .entry)) / 2 * p .bits) × (now (soft .exit) ≡ putAt o (blockBits (now (z .entry)) (p .points) (p .bits) (pos (p .k)) (length (now (z .entry)) / 2)) (now (soft .entry))) ⌝ }
 {
-    match frame_map::part(j) {
-        SlotPart::Sync(_) => o,
-        SlotPart::Pilot(_) => o,
-        SlotPart::Main(_) => {
-            let z = eq_fir::ranged_rows::output(rows, line);
-            main_symbol(p, z, o, soft)
-        }
-        SlotPart::Tmcc(_) => o,
-        SlotPart::Refused(_) => o,
+    let bits = p.bits as usize;
+    if bits == 0 {
+        o
+    } else {
+        let points = p.points;
+        let n = numbers(bits);
+        let e = o + z.len() / 2 * bits;
+        demap::ranged::block(z, &points[0..n], bits, p.k as i64, &mut soft[o..e]);
+        e
     }
 }

@@ -1,5 +1,6 @@
 // What a corrected slot gives: aligned symbols, trainings, soft bits. What it means stands in specs/.
 mod bits;
+mod groups;
 pub mod ranged;
 
 use frame::Back;
@@ -35,4 +36,11 @@ pub struct Given {
 struct Begun {
     back: Back,
     place: usize,
+}
+
+// Symbols 29 + from on, so many, of which the first so many let out main symbols.
+struct Stretch {
+    from: usize,
+    symbols: usize,
+    mains: usize,
 }

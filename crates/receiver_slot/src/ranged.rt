@@ -5,6 +5,7 @@ use crate::Given;
 use crate::Points;
 use crate::Runs;
 use crate::bits;
+use crate::groups;
 use eq::Equaliser;
 use frame::Back;
 use frame::Pushed;
@@ -76,7 +77,8 @@ fn first(
     }
 }
 
-// The other 9,267: each shifts the line and lets out the one five before it. The rows come by a reference (docs/BENCHMARKS.md).
+// The other 9,267: each shifts the line and lets out the one five before it. The last 135 let out main
+// symbols. The rows come by a reference (docs/BENCHMARKS.md).
 fn rest(
     line: &mut [i16; 22],
     rows: &[i16; 96],
@@ -90,15 +92,41 @@ fn rest(
     requires { ⌜ RestOk (now line) (now rows) w p place (now table) (now store) (now soft) ⌝ }
     ensures { λ r. ⌜ (now (line .exit) ≡ lineOn 9267 (now (line .entry)) w (now (table .entry)) (now (store .entry))) × (now (soft .exit) ≡ putAt place (softOn 9267 p (now (rows .entry)) (now (line .entry)) w (now (table .entry)) (now (store .entry))) (now (soft .entry))) ⌝ }
 {
+    let mut z = [0i16; 272];
     let mut o = place;
-    let mut k: usize = 0;
-    while k < 9267 {
-        let c = phase::ranged::corrected(w, 29 + k, table, store);
-        let y = c.y;
-        eq_fir::ranged::shift(line, y.i, y.q);
-        o = bits::output(p, rows, line, 24 + k, o, soft);
-        k += 1;
+    let mut g: usize = 0;
+    while g < 66 {
+        let s = groups::stretch(g);
+        o = groups::group(
+            line,
+            &mut z[0..272],
+            rows,
+            w,
+            p,
+            s.from,
+            s.symbols,
+            s.mains,
+            o,
+            table,
+            store,
+            soft,
+        );
+        g += 1;
     }
+    groups::group(
+        line,
+        &mut z[0..272],
+        rows,
+        w,
+        p,
+        9132,
+        135,
+        135,
+        o,
+        table,
+        store,
+        soft,
+    );
 }
 
 fn meta(h: Head, j: usize) -> Meta

@@ -1,10 +1,12 @@
 -- `receiver_slot::ranged::all` meets its contract: the first 29 symbols, and the others by the line alone. Assumes nothing.
-use mathlib.Core.Path.{_∙_}
+use mathlib.Core.Path.{subst, sym, _∙_}
 use Prim.Native.Nat.{_≤_}
 use native.Mathlib.Omega.{arith}
 use borrow.Author.Needs.{needs}
 use lib.Dec.{lit≤}
 use lib.ListN.{length}
+use Rattle.eq_fir.specs.Rows.{Ends}
+use Rattle.eq_fir.proofs.Windows.{rows-end}
 use Rattle.receiver_slot.specs.Steps.{softTo}
 use Rattle.receiver_slot.proofs.Settled.{end-back, end-room, end-soft}
 use Rattle.receiver_slot.proofs.Softs.{soft-fits}
@@ -33,6 +35,7 @@ rest-requires c κs =
     record {
       line-long = r .ensures .3;
       bytes = r .ensures .1;
+      ends = subst Ends (sym (r .ensures .0)) (rows-end (g .result .back .eq .taps) (r .ensures .2));
       whole = h .whole;
       accepted = h .accepted;
       points = h .points;

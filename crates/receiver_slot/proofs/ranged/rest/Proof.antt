@@ -1,127 +1,112 @@
--- `receiver_slot::ranged::rest` meets its contract: after k turns line and buffer are those of k symbols. Assumes nothing.
-use mathlib.Core.Path.{_≡_, sym, _∙_}
-use Prim.Native.Nat.{_+_, _-_, _≤_, _<_}
+-- `receiver_slot::ranged::rest` meets its contract: behind each group, line and buffer are those of its symbols. Assumes nothing.
+use mathlib.Core.Path.{_≡_, refl}
+use Prim.Native.Nat.{_-_, _≤_, _<_}
 use native.Mathlib.Omega.{arith}
-use lib.ListN.{length}
-use lib.Signed.{mag}
-use mir.Syntax.{w16}
-use Rattle.laws.proofs.Size.{back}
-use Rattle.eq_fir.specs.Rows.{outputBy}
-use Rattle.frame_map.specs.Map.{partOf}
-use Rattle.receiver_slot.specs.Slot.{softOf}
-use Rattle.receiver_slot.specs.Steps.{lineOn, putAt, softOn}
-use Rattle.receiver_slot.proofs.Rest.{line-long, line-none, line-turn, place-turn, soft-turn, softs-next, softs-none, softs-room}
-use Rattle.receiver_slot.proofs.Steps.{put-length, put-none}
+use lib.Dec.{lit≤}
+use lib.ListN.{drop, length, length-append, length-drop, length-take, take}
+use Rattle.receiver_slot.proofs.Stretches.{Done, at-end, at-start, done-length, done-none, group-done, group-ok, held, last-run, outs-kept, startOf}
 use borrow.Author.Needs.{needs}
 use Rattle.receiver_slot.proofs.ranged.rest.Statement.{statement}
 use Rattle.receiver_slot.proofs.ranged.rest.Tie as tie
 
 abbrev Inv-loop : tie.InvT-loop
-Inv-loop line₀ rows w p place table store soft₀ o₀ k₀ line soft o k =
-    (k ≤ 9267) × (line ≡ lineOn k line₀ w table store) × (o ≡ place + length (softOn k p rows line₀ w table store)) × (soft ≡ putAt place (softOn k p rows line₀ w table store) soft₀)
+Inv-loop line₀ rows w p place table store soft₀ z₀ o₀ g₀ line soft z o g =
+    (g ≤ 66) × Done p rows line₀ w table store (startOf g) place o line soft soft₀ × (length z ≡ 272)
 
 abbrev μ-loop : tie.MeasureT-loop
-μ-loop line₀ rows w p place table store soft₀ o₀ k₀ line soft o k = 9267 - k
+μ-loop line₀ rows w p place table store soft₀ z₀ o₀ g₀ line soft z o g = 66 - g
 
 loop-holds : tie.Need-loop-holds Inv-loop μ-loop
-loop-holds c =
-    let a = c .args in
-    let n = softs-none (a .p) (a .rows .now) (a .line .now) (a .w) (a .table .now) (a .store .now) in (
-      omega arith,
-      sym (line-none (a .p) (a .rows .now) (a .line .now) (a .w) (a .table .now) (a .store .now)),
-      rw n (omega arith),
-      rw n (sym (put-none (a .place) (a .soft .now))),
-    )
+loop-holds c = (omega arith, done-none (c .pre), refl)
 
-add-corrected : tie.Need-add-corrected Inv-loop μ-loop
-add-corrected c = search needs
+stretch-requires : tie.Need-stretch-requires Inv-loop μ-loop
+stretch-requires c κs = search needs
 
-corrected-requires : tie.Need-corrected-requires Inv-loop μ-loop
-corrected-requires c κs =
-    let h = c .before .before .pre in
-    let l : c .before .loop .k < 9267 = omega (arith, c .loop-test .taken) in
-    (h .whole, omega (arith, l), omega (arith, l, h .accepted), h .cosines, h .held)
+sub-group : tie.Need-sub-group Inv-loop μ-loop
+sub-group c = search needs
 
-shift-requires : tie.Need-shift-requires Inv-loop μ-loop
-shift-requires c κs =
-    let S = c .before .before .before .before .before .before .before in
+part-z-start : tie.Need-part-z-start Inv-loop μ-loop
+part-z-start c = search needs
+
+part-z-end : tie.Need-part-z-end Inv-loop μ-loop
+part-z-end c = omega (arith, c .before .before .before .loop .inv .2)
+
+group-requires : tie.Need-group-requires Inv-loop μ-loop
+group-requires c κs =
+    let S = c .before .before .before .before .before .before in
+    let L = c .before .before .before .before .before .loop in
     let a = S .args in
-    let L = c .before .before .before .before .before .before .loop in
-    rw (L .inv .1) (line-long (a .p) (a .rows .now) (a .line .now) (a .w) (a .table .now) (a .store .now) (S .pre .line-long) (L .k))
+    let t : L .g < 66 = omega (arith, c .before .before .before .before .loop-test .taken) in
+    let H = held (a .p) (L .g) (c .before .before .before .stretch .result) t (c .before .before .before .stretch .ensures) in
+    group-ok (S .pre) (at-start H (L .inv .1)) (c .before .before .before .stretch .result .symbols) (c .before .before .before .stretch .result .mains) (take 272 (L .z)) (H .group) (omega (arith, H .next, t)) (H .few) (H .most)
+    (omega (arith, L .inv .2, length-take 272 (L .z)))
 
-add-output : tie.Need-add-output Inv-loop μ-loop
-add-output c = search needs
-
--- the line of this turn
-module _ (c : tie.After-output-arg2 Inv-loop μ-loop) where
-  turned : c .before .before .shift .last .0 ≡
-      lineOn (c .before .before .before .before .before .before .before .before .before .loop .k + 1)
-      (c .before .before .before .before .before .before .before .before .before .before .args .line .now)
-      (c .before .before .before .before .before .before .before .before .before .before .args .w)
-      (c .before .before .before .before .before .before .before .before .before .before .args .table .now)
-      (c .before .before .before .before .before .before .before .before .before .before .args .store .now)
-  turned =
-      let S = c .before .before .before .before .before .before .before .before .before .before in
-      let a = S .args in
-      let L = c .before .before .before .before .before .before .before .before .before .loop in
-      let r = c .before .before .before .before .before .before .before .corrected in
-      let hi : mag (r .result .y .i) < 32768 = c .before .before .before .before .struct-told .given .0 .1 in
-      let hq : mag (r .result .y .q) < 32768 = c .before .before .before .struct-told2 .given .1 .0 .1 in
-      let g = rw (back w16 (r .result .y .i) hi, back w16 (r .result .y .q) hq) at (c .before .before .shift .ensures) in
-      line-turn (a .p) (a .rows .now) (a .line .now) (a .w) (a .table .now) (a .store .now) (L .k) (L .line) (c .before .before .shift .last .0) (r .result) (L .inv .1)
-      (r .ensures) g
-
-output-requires : tie.Need-output-requires Inv-loop μ-loop
-output-requires c κs =
-    let S = c .before .before .before .before .before .before .before .before .before .before in
-    let a = S .args in
-    let h = S .pre in
-    let L = c .before .before .before .before .before .before .before .before .before .loop in
-    let l : L .k < 9267 = omega (arith, c .before .before .before .before .before .before .before .before .loop-test .taken) in
-    let e = turned c in
-    let soft = softOn (L .k) (a .p) (a .rows .now) (a .line .now) (a .w) (a .table .now) (a .store .now) in
-    let n = softs-next (a .p) (a .rows .now) (a .line .now) (a .w) (a .table .now) (a .store .now) (L .k) l in
-    let m = softs-room (a .p) (a .rows .now) (a .line .now) (a .w) (a .table .now) (a .store .now) (L .k) (L .inv .0) in
-    let fits : L .o + length (softOf (partOf (24 + L .k)) (a .p) (outputBy (a .rows .now) (c .before .before .shift .last .0))) ≤ length (L .soft) =
-    rw (e, L .inv .2, L .inv .3, put-length (a .place) soft (a .soft .now) (omega (arith, m, h .room))) (omega (arith, n, h .room)) in
-    (h .points, h .bytes, rw e (line-long (a .p) (a .rows .now) (a .line .now) (a .w) (a .table .now) (a .store .now) (h .line-long) (L .k + 1)), fits)
-
-add-k : tie.Need-add-k Inv-loop μ-loop
-add-k c = search needs
+add-g : tie.Need-add-g Inv-loop μ-loop
+add-g c = search needs
 
 loop-less : tie.Need-loop-less Inv-loop μ-loop
 loop-less c = search needs
 
 loop-again : tie.Need-loop-again Inv-loop μ-loop
 loop-again c =
-    let S = c .before .before .before .before .before .before .before .before .before .before .before .before in
+    let S = c .before .before .before .before .before .before .before .before .before in
+    let L = c .before .before .before .before .before .before .before .before .loop in
     let a = S .args in
-    let L = c .before .before .before .before .before .before .before .before .before .before .before .loop in
-    let l : L .k + 1 ≤ 9267 = omega (arith, c .before .before .before .before .before .before .before .before .before .before .loop-test .taken) in
-    let e = turned (c .before .before) in
-    let g = rw e at (c .before .output .ensures) in (
-      l,
-      e,
-      g .0 ∙ place-turn (a .p) (a .rows .now) (a .line .now) (a .w) (a .table .now) (a .store .now) (L .k) (a .place) (L .o) (L .inv .2),
-      g .1
-          ∙ soft-turn (a .p) (a .rows .now) (a .line .now) (a .w) (a .table .now) (a .store .now) (L .k) (a .place) (L .o) (L .soft) (a .soft .now)
-          (omega (arith, S .pre .room)) (L .inv .2) (L .inv .3),
+    let t : L .g < 66 = omega (arith, c .before .before .before .before .before .before .before .loop-test .taken) in
+    let s = c .before .before .before .before .before .before .stretch in
+    let H = held (a .p) (L .g) (s .result) t (s .ensures) in
+    let q = c .before .before .group in
+    let d = group-done (S .pre) (at-start H (L .inv .1)) (s .result .symbols) (s .result .mains) _ _ _ (H .group) (omega (arith, H .next, t)) (q .ensures .0) (q .ensures .1) (q .ensures .3) in (
+      omega (arith, t),
+      at-end H d,
+      omega (
+        arith,
+        length-append (q .last .1 .0) (drop 272 (L .z)),
+        outs-kept (s .result .from) (s .result .mains) (a .rows .now) (L .line) (a .w) (a .table .now) (a .store .now) (L .z) (q .last .1 .0) (L .inv .2) (H .most) (q .ensures .2),
+        length-drop 272 (L .z),
+        L .inv .2,
+      ),
     )
+
+sub-group-2 : tie.Need-sub-group-2 Inv-loop μ-loop
+sub-group-2 c = search needs
+
+part-z-start-2 : tie.Need-part-z-start-2 Inv-loop μ-loop
+part-z-start-2 c = search needs
+
+part-z-end-2 : tie.Need-part-z-end-2 Inv-loop μ-loop
+part-z-end-2 c = omega (arith, c .before .before .loop .inv .2)
+
+group-requires-2 : tie.Need-group-requires-2 Inv-loop μ-loop
+group-requires-2 c κs =
+    let S = c .before .before .before .before .before in
+    let L = c .before .before .before .before .loop in
+    let a = S .args in
+    let e : L .g ≡ 66 = omega arith in
+    let d : Done (a .p) (a .rows .now) (a .line .now) (a .w) (a .table .now) (a .store .now) 9132 (a .place) (L .o) (L .line) (L .soft) (a .soft .now) = rw e at (L .inv .1) in
+    group-ok (S .pre) d 135 135 (take 272 (L .z)) (last-run (a .p)) (lit≤ tt) (lit≤ tt) (lit≤ tt) (omega (arith, L .inv .2, length-take 272 (L .z)))
 
 same-length : tie.Need-same-length Inv-loop μ-loop
 same-length c =
-    let S = c .before .before in
+    let S = c .before .before .before .before .before .before .before .before in
+    let L = c .before .before .before .before .before .before .before .loop in
     let a = S .args in
-    let L = c .before .loop in
-    let m = softs-room (a .p) (a .rows .now) (a .line .now) (a .w) (a .table .now) (a .store .now) (L .k) (L .inv .0) in
-    rw (L .inv .3)
-    (put-length (a .place) (softOn (L .k) (a .p) (a .rows .now) (a .line .now) (a .w) (a .table .now) (a .store .now)) (a .soft .now) (omega (arith, m, S .pre .room)))
+    let e : L .g ≡ 66 = omega arith in
+    let d : Done (a .p) (a .rows .now) (a .line .now) (a .w) (a .table .now) (a .store .now) 9132 (a .place) (L .o) (L .line) (L .soft) (a .soft .now) = rw e at (L .inv .1) in
+    let q = c .before .before .group2 in
+    let f = group-done (S .pre) d 135 135 _ _ _ (last-run (a .p)) (lit≤ tt) (q .ensures .0) (q .ensures .1) (q .ensures .3) in
+    done-length (S .pre) f (lit≤ tt)
 
 returns : tie.Need-returns Inv-loop μ-loop
 returns c =
-    let L = c .before .loop in
-    let e : L .k ≡ 9267 = omega arith in
-    (rw e at (L .inv .1), rw e at (L .inv .3))
+    let S = c .before .before .before .before .before .before .before .before in
+    let L = c .before .before .before .before .before .before .before .loop in
+    let a = S .args in
+    let e : L .g ≡ 66 = omega arith in
+    let d : Done (a .p) (a .rows .now) (a .line .now) (a .w) (a .table .now) (a .store .now) 9132 (a .place) (L .o) (L .line) (L .soft) (a .soft .now) = rw e at (L .inv .1) in
+    let q = c .before .before .group2 in
+    let f = group-done (S .pre) d 135 135 _ _ _ (last-run (a .p)) (lit≤ tt) (q .ensures .0) (q .ensures .1) (q .ensures .3) in
+    (f .line-is, f .soft-is)
 
 pub rest-spec : {M : Type 1} → statement M
 rest-spec =
@@ -130,13 +115,17 @@ rest-spec =
     Inv-loop
     μ-loop
     loop-holds
-    add-corrected
-    corrected-requires
-    shift-requires
-    add-output
-    output-requires
-    add-k
+    stretch-requires
+    sub-group
+    part-z-start
+    part-z-end
+    group-requires
+    add-g
     loop-less
     loop-again
+    sub-group-2
+    part-z-start-2
+    part-z-end-2
+    group-requires-2
     same-length
     returns)
