@@ -1,3 +1,10 @@
-//! The unchanged stages wired as document 01, "The receiver", says.
+//! The unchanged stages wired as document 01, "The receiver", says; a receiver made of the stages' models; calls of the replay program, what they
+//! owe, and the calls that are made, by kind.
 
+pub mod calls;
+pub mod desk;
+pub mod kinds;
+pub mod model;
+pub mod player;
+pub mod signal;
 pub mod wired;
