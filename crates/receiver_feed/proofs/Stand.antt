@@ -187,24 +187,41 @@ module _ (b : Block) (n i : ℕ) (r : Receiver) (l : Lent) where
       lent-eq u v p q s = sym (rw (← p, ← q, ← s))
 
 module _ (b : Block) (n i : ℕ) (r : Receiver) (acc : List ℕ) (store soft : List ℤ) where
+  -- what is left behind a stretch
+  pub stretch-left : (m k : ℕ) (rows : List ℤ) (v : Receiver) (acc' : List ℕ) (store' : List ℤ) → i < n → m ≡ calmOf r (n - i) → (m ≡ 0 → ⊥) →
+      Stands (length acc) (length store) (length soft) (b .f) (b .s) (length (b .table)) → rows ≡ rowsOf (b .f) (b .s) →
+      v ≡ passedBy r k (movesFrom r (b .bytes) (b .table) rows acc store i k) → acc' ≡ movesFrom r (b .bytes) (b .table) rows acc store i k .acc →
+      store' ≡ movesFrom r (b .bytes) (b .table) rows acc store i k .store → k ≤ m → ((j : ℕ) → j < k → Fits (movesFrom r (b .bytes) (b .table) rows acc store i j)) →
+      standFrom b (n - (i + k)) (i + k) v (record { acc = acc'; store = store'; soft = soft }) ≡ standFrom b (n - i) i r (record { acc = acc; store = store; soft = soft })
+  unfolding lentBy
+  stretch-left m k rows v acc' store' h e z w er ev ea es' l f =
+      let q = calm-known r (n - i) m e z in
+      let c : k + (n - (i + k)) ≡ n - i = omega (arith, h, l, q .2) in
+      rw (ev, ea, es', er) (sym (stretch-stands r b i m acc store soft (q .0) (q .1) w k (n - (i + k)) l (λ j y. subst (λ (x : List ℤ). Fits (movesFrom r (b .bytes) (b .table) x acc store i j)) er (f j y))) ∙ ap (λ (x : ℕ). standFrom b x i r (record { acc = acc; store = store; soft = soft })) c)
+
   pub stretch-end : (m k : ℕ) (rows : List ℤ) (v : Receiver) (acc' : List ℕ) (store' : List ℤ) (es : Events) (g : Runs) → i < n → m ≡ calmOf r (n - i) → (m ≡ 0 → ⊥) →
       Stands (length acc) (length store) (length soft) (b .f) (b .s) (length (b .table)) → rows ≡ rowsOf (b .f) (b .s) →
       v ≡ passedBy r k (movesFrom r (b .bytes) (b .table) rows acc store i k) → acc' ≡ movesFrom r (b .bytes) (b .table) rows acc store i k .acc →
       store' ≡ movesFrom r (b .bytes) (b .table) rows acc store i k .store → 1 ≤ k → k ≤ m → ((j : ℕ) → j < k → Fits (movesFrom r (b .bytes) (b .table) rows acc store i j)) →
       let t : Turn = record { refusal = 0; used = i + k; receiver = v; events = es; runs = g; done = false } in
       (restBy b n t (record { acc = acc'; store = store'; soft = soft }) ≡ standFrom b (n - i) i r (record { acc = acc; store = store; soft = soft })) × (Leads n i t)
-  unfolding lentBy
   stretch-end m k rows v acc' store' es g h e z w er ev ea es' u l f =
       let q = calm-known r (n - i) m e z in
       let t : Turn = record { refusal = 0; used = i + k; receiver = v; events = es; runs = g; done = false } in
-      let c : k + (n - (i + k)) ≡ n - i = omega (arith, h, l, q .2) in
       let lead : Leads n i t = record { from = omega arith; most = omega (arith, h, l, q .2); on = λ y. omega (arith, u) } in
-      (on (rw (ev, ea, es', er) (sym (stretch-stands r b i m acc store soft (q .0) (q .1) w k (n - (i + k)) l (λ j y. subst (λ (x : List ℤ). Fits (movesFrom r (b .bytes) (b .table) x acc store i j)) er (f j y))) ∙ ap (λ (x : ℕ). standFrom b x i r (record { acc = acc; store = store; soft = soft })) c)), lead)
+      (on (stretch-left m k rows v acc' store' h e z w er ev ea es' l f), lead)
     where
       on : standFrom b (n - (i + k)) (i + k) v (record { acc = acc'; store = store'; soft = soft }) ≡ standFrom b (n - i) i r (record { acc = acc; store = store; soft = soft }) →
           restBy b n (record { refusal = 0; used = i + k; receiver = v; events = es; runs = g; done = false }) (record { acc = acc'; store = store'; soft = soft })
           ≡ standFrom b (n - i) i r (record { acc = acc; store = store; soft = soft })
       on y = unfold restBy if_then_else_ in y
+
+pub both-end : (b : Block) (n i k : ℕ) (r v : Receiver) (l m p : Lent) (t : Turn) → standFrom b (n - (i + k)) (i + k) v m ≡ standFrom b (n - i) i r l →
+    (restBy b n t p ≡ standFrom b (n - (i + k)) (i + k) v m) × (Leads n (i + k) t) → (restBy b n t p ≡ standFrom b (n - i) i r l) × (Leads n i t)
+both-end b n i k r v l m p t e h =
+    let w = h .1 in
+    let a = w .from in
+    (h .0 ∙ e, record { from = omega (arith, a); most = w .most; on = λ d. let q = w .on d in omega (arith, q) })
 
 pub first-rest : (b : Block) (n : ℕ) (t : Turn) (l : Lent) → t .used ≡ 0 → t .done ≡ false → restBy b n t l ≡ standFrom b n 0 (t .receiver) l
 unfolding restBy if_then_else_

@@ -72,8 +72,7 @@ fn quiet(
     }
 }
 
-// .. by the slot phase: none is held, or the next symbol has its place. Two callers keep `quiet` a function of its own: within another one the compiler would see
-// the rows, and lose the products of 16 bits (docs/BENCHMARKS.md, "receiver").
+// .. by the slot phase: none is held, or the next symbol has its place.
 pub(crate) fn moved(
     y0: Tally,
     phase: u32,

@@ -105,7 +105,38 @@ fn no_runs() -> Runs
     }
 }
 
-// At symbol i of n.
+// Symbol i of n by its call.
+fn single(
+    r: Receiver,
+    i: usize,
+    n: usize,
+    bytes: &[i8],
+    f: [i8; 48],
+    s: [i8; 48],
+    table: &[i16],
+    acc: &mut [u32],
+    store: &mut [i16],
+    soft: &mut [i8],
+) -> Turn
+    requires { ⌜ (i < n) × (n ≡ length (now bytes) / 2) ⌝ }
+    ensures { λ t. ⌜ (restBy (record { bytes = now (bytes .entry); f = f; s = s; table = now (table .entry) }) n t (record { acc = now (acc .exit); store = now (store .exit); soft = now (soft .exit) }) ≡ standFrom (record { bytes = now (bytes .entry); f = f; s = s; table = now (table .entry) }) (n - i) i r (record { acc = now (acc .entry); store = now (store .entry); soft = now (soft .entry) })) × (Leads n i t) ⌝ }
+{
+    let a = receiver_symbol::symbol(
+        r,
+        bytes[2 * i],
+        bytes[2 * i + 1],
+        f,
+        s,
+        table,
+        acc,
+        store,
+        soft,
+    );
+    told(a, i)
+}
+
+// At symbol i of n: all that is left tells nothing, or what tells nothing and the symbol after it. Two callers with something to do behind them keep the loop of
+// `stretch` a function of its own: within another one the compiler would see the rows, and lose the products of 16 bits (docs/BENCHMARKS.md, "receiver").
 fn turn(
     r: Receiver,
     i: usize,
@@ -122,22 +153,16 @@ fn turn(
     requires { ⌜ (i < n) × (n ≡ length (now bytes) / 2) × (now rows ≡ rowsOf f s) × (Stands (length (now acc)) (length (now store)) (length (now soft)) f s (length (now table))) ⌝ }
     ensures { λ t. ⌜ (restBy (record { bytes = now (bytes .entry); f = f; s = s; table = now (table .entry) }) n t (record { acc = now (acc .exit); store = now (store .exit); soft = now (soft .exit) }) ≡ standFrom (record { bytes = now (bytes .entry); f = f; s = s; table = now (table .entry) }) (n - i) i r (record { acc = now (acc .entry); store = now (store .entry); soft = now (soft .entry) })) × (Leads n i t) ⌝ }
 {
-    let m = ready::calm(r, n - i);
+    let left = n - i;
+    let m = ready::calm(r, left);
     if m == 0 {
-        let a = receiver_symbol::symbol(
-            r,
-            bytes[2 * i],
-            bytes[2 * i + 1],
-            f,
-            s,
-            table,
-            acc,
-            store,
-            soft,
-        );
-        told(a, i)
-    } else {
+        single(r, i, n, bytes, f, s, table, acc, store, soft)
+    } else if m < left {
         let p = stretch::stretch(r, bytes, i, m, rows, table, acc, store);
+        let x = p.receiver;
+        single(x, i + p.taken, n, bytes, f, s, table, acc, store, soft)
+    } else {
+        let p = stretch::stretch(r, bytes, i, left, rows, table, acc, store);
         let x = p.receiver;
         Turn {
             refusal: 0,

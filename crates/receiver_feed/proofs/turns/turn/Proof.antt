@@ -1,52 +1,58 @@
--- A stretch, or one symbol. Assumes nothing.
+-- What tells nothing, then a symbol; or one of both. Assumes nothing.
+use Prim.Native.Nat.{_-_}
 use mathlib.Core.Path.{_≡_, sym, ap, _∙_}
 use native.Mathlib.Omega.{arith}
 use denote.Ref.{now}
-use mir.Facts.{toZ-ofZ}
-use lib.ListN.{length}
 use Rattle.sync_corr.proofs.Laws.{rows-unit}
+use Rattle.receiver_feed.specs.Turns.{calmOf}
 use Rattle.receiver_feed.proofs.Calm.{calm-known}
-use Rattle.receiver_feed.proofs.Stand.{single-end, stretch-end}
+use Rattle.receiver_feed.proofs.Stand.{both-end, stretch-end, stretch-left}
 use borrow.Author.Needs.{needs}
 use Rattle.receiver_feed.proofs.turns.turn.Statement.{statement}
 use Rattle.receiver_feed.proofs.turns.turn.Tie as tie
 
-sub-calm : tie.Need-sub-calm
-sub-calm c = search needs
+sub-left : tie.Need-sub-left
+sub-left c = search needs
 
 calm-requires : tie.Need-calm-requires
 calm-requires c κs = search needs
 
-mul-symbol : tie.Need-mul-symbol
-mul-symbol c = search needs
-
-shared-slice-copy-out-symbol : tie.Need-shared-slice-copy-out-symbol
-shared-slice-copy-out-symbol c = search needs
-
-mul-symbol-2 : tie.Need-mul-symbol-2
-mul-symbol-2 c = search needs
-
-add-symbol : tie.Need-add-symbol
-add-symbol c = search needs
-
-shared-slice-copy-out-symbol-2 : tie.Need-shared-slice-copy-out-symbol-2
-shared-slice-copy-out-symbol-2 c = search needs
-
-symbol-requires : tie.Need-symbol-requires
-symbol-requires c κs = search needs
-
-told-requires : tie.Need-told-requires
-told-requires c κs = omega (arith, c .before .before .before .before .before .before .before .before .before .before .before .before .before .pre .0, c .before .before .before .before .before .before .before .before .before .before .before .before .before .pre .1, c .before .before .before .before .before .before .before .before .before .before .before .before .before .good .1 .1 .1 .0 .0)
+single-requires : tie.Need-single-requires
+single-requires c κs = search needs
 
 stretch-requires : tie.Need-stretch-requires
 stretch-requires c κs =
-    let o = c .before .before .before .before .before in
+    let o = c .before .before .before .before .before .before in
     let p = o .pre in
-    let k = calm-known (o .args .r) _ _ (c .before .before .before .calm .ensures) (c .before .before .if1 .left) in
-    (k .0, k .1, omega (arith, c .before .before .if1 .left), omega (arith, k .2, p .0, p .1), rw (p .2) (rows-unit (o .args .f) (o .args .s) (p .3 .first) (p .3 .second)), p .3 .cosines, p .3 .long, p .3 .held)
+    let k = calm-known (o .args .r) _ _ (c .before .before .before .before .calm .ensures) (c .before .before .before .if1 .left) in
+    (k .0, k .1, omega (arith, c .before .before .before .if1 .left), omega (arith, k .2, p .0, p .1), rw (p .2) (rows-unit (o .args .f) (o .args .s) (p .3 .first) (p .3 .second)), p .3 .cosines, p .3 .long, p .3 .held)
 
-add-t36 : tie.Need-add-t36
-add-t36 c = omega (arith, c .before .before .before .before .before .stretch .ensures .4, calm-known (c .before .before .before .before .before .before .before .before .before .before .before .args .r) _ _ (c .before .before .before .before .before .before .before .before .before .calm .ensures) (c .before .before .before .before .before .before .before .before .if1 .left) .2, c .before .before .before .before .before .before .before .before .before .before .before .pre .0, c .before .before .before .before .before .before .before .before .before .before .before .pre .1, c .before .before .before .before .before .before .before .before .before .before .before .good .1 .1 .1 .0 .0)
+add-single : tie.Need-add-single
+add-single c =
+    let o = c .before .before .before .before .before .before .before .before .before .before .before .before in
+    let p = o .pre in
+    let k = calm-known (o .args .r) _ _ (c .before .before .before .before .before .before .before .before .before .before .calm .ensures) (c .before .before .before .before .before .before .before .before .before .if1 .left) in
+    omega (arith, c .before .before .before .before .before .stretch .ensures .4, k .2, p .0, p .1, o .good .1 .1 .1 .0 .0)
+
+single-requires-2 : tie.Need-single-requires-2
+single-requires-2 c κs =
+    let o = c .before .before .before .before .before .before .before .before .before .before .before .before .before .before .before in
+    let p = o .pre in
+    let k = calm-known (o .args .r) _ _ (c .before .before .before .before .before .before .before .before .before .before .before .before .before .calm .ensures) (c .before .before .before .before .before .before .before .before .before .before .before .before .if1 .left) in
+    (omega (arith, c .before .before .before .before .before .before .before .before .stretch .ensures .4, c .before .before .before .before .before .before .before .before .before .before .before .if2 .taken, p .0), p .1)
+
+stretch-requires-2 : tie.Need-stretch-requires-2
+stretch-requires-2 c κs =
+    let o = c .before .before .before .before .before .before in
+    let p = o .pre in
+    let k = calm-known (o .args .r) _ _ (c .before .before .before .before .calm .ensures) (c .before .before .before .if1 .left) in
+    let w : o .args .n - o .args .i ≡ c .before .before .before .before .calm .result = omega (arith, k .2, c .before .before .if2 .left) in
+    let e : o .args .n - o .args .i ≡ calmOf (o .args .r) (o .args .n - o .args .i) = w ∙ c .before .before .before .before .calm .ensures in
+    let j = calm-known (o .args .r) _ _ e (λ z. c .before .before .before .if1 .left (sym w ∙ z)) in
+    (j .0, j .1, omega (arith, p .0), omega (arith, p .0, p .1), rw (p .2) (rows-unit (o .args .f) (o .args .s) (p .3 .first) (p .3 .second)), p .3 .cosines, p .3 .long, p .3 .held)
+
+add-t43 : tie.Need-add-t43
+add-t43 c = let o = c .before .before .before .before .before .before .before .before .before .before .before .before in omega (arith, c .before .before .before .before .before .stretch2 .ensures .4, o .pre .0, o .pre .1, o .good .1 .1 .1 .0 .0)
 
 no-events-requires : tie.Need-no-events-requires
 no-events-requires c κs = search needs
@@ -64,12 +70,7 @@ same-length-3 : tie.Need-same-length-3
 same-length-3 c = search needs
 
 returns : tie.Need-returns
-returns c =
-    let o = c .before .before .before .before .before .before .before .before .before .before .before .before .before .before in
-    let a = o .args in
-    let g = c .before .before .before .before .before .symbol .ensures in
-    single-end (record { bytes = now (a .bytes); f = a .f; s = a .s; table = now (a .table) }) (a .n) (a .i) (a .r) (record { acc = now (a .acc); store = now (a .store); soft = now (a .soft) }) _ _ _ _ _ (o .pre .0)
-    (toZ-ofZ (record { sfits = c .before .before .before .before .before .before .before .before .before .before .symbol-arg .given })) (toZ-ofZ (record { sfits = c .before .before .before .before .before .before .before .before .before .symbol-arg2 .given })) (g .0) (g .1) (g .2) (g .3) (c .told .ensures)
+returns c = search needs
 
 same-length-4 : tie.Need-same-length-4
 same-length-4 c = search needs
@@ -77,29 +78,49 @@ same-length-4 c = search needs
 same-length-5 : tie.Need-same-length-5
 same-length-5 c = search needs
 
+same-length-6 : tie.Need-same-length-6
+same-length-6 c = search needs
+
 returns-2 : tie.Need-returns-2
 returns-2 c =
-    let o = c .before .before .before .before .before .before .before .before .before .before .before .before .before in
+    let o = c .before .before .before .before .before .before .before .before .before .before .before .before .before .before .before .before .before .before .before .before in
     let a = o .args in
-    let g = c .before .before .before .before .before .before .before .stretch .ensures in
+    let g = c .before .before .before .before .before .before .before .before .before .before .before .before .before .stretch .ensures in
+    both-end _ _ _ _ _ _ _ _ _ _
+    (stretch-left (record { bytes = now (a .bytes); f = a .f; s = a .s; table = now (a .table) }) (a .n) (a .i) (a .r) (now (a .acc)) (now (a .store)) (now (a .soft)) _ _ _ _ _ _ (o .pre .0)
+    (c .before .before .before .before .before .before .before .before .before .before .before .before .before .before .before .before .before .before .calm .ensures) (c .before .before .before .before .before .before .before .before .before .before .before .before .before .before .before .before .before .if1 .left) (o .pre .3) (o .pre .2) (g .0) (g .1) (g .2) (g .4) (g .5))
+    (c .before .before .before .before .single2 .ensures)
+
+same-length-7 : tie.Need-same-length-7
+same-length-7 c = search needs
+
+same-length-8 : tie.Need-same-length-8
+same-length-8 c = search needs
+
+returns-3 : tie.Need-returns-3
+returns-3 c =
+    let o = c .before .before .before .before .before .before .before .before .before .before .before .before .before .before in
+    let p = o .pre in
+    let k = calm-known (o .args .r) _ _ (c .before .before .before .before .before .before .before .before .before .before .before .before .calm .ensures) (c .before .before .before .before .before .before .before .before .before .before .before .if1 .left) in
+    let w : o .args .n - o .args .i ≡ c .before .before .before .before .before .before .before .before .before .before .before .before .calm .result = omega (arith, k .2, c .before .before .before .before .before .before .before .before .before .before .if2 .left) in
+    let e : o .args .n - o .args .i ≡ calmOf (o .args .r) (o .args .n - o .args .i) = w ∙ c .before .before .before .before .before .before .before .before .before .before .before .before .calm .ensures in
+    let a = o .args in
+    let g = c .before .before .before .before .before .before .before .stretch2 .ensures in
     stretch-end (record { bytes = now (a .bytes); f = a .f; s = a .s; table = now (a .table) }) (a .n) (a .i) (a .r) (now (a .acc)) (now (a .store)) (now (a .soft)) _ _ _ _ _ _ _ _ (o .pre .0)
-    (c .before .before .before .before .before .before .before .before .before .before .before .calm .ensures) (c .before .before .before .before .before .before .before .before .before .before .if1 .left) (o .pre .3) (o .pre .2) (g .0) (g .1) (g .2) (g .3) (g .4) (g .5)
+    e (λ z. c .before .before .before .before .before .before .before .before .before .before .before .if1 .left (sym w ∙ z)) (o .pre .3) (o .pre .2) (g .0) (g .1) (g .2) (g .3) (g .4) (g .5)
 
 pub turn-spec : {M : Type 1} → statement M
 turn-spec =
     tie.close
     (tie.spec
-    sub-calm
+    sub-left
     calm-requires
-    mul-symbol
-    shared-slice-copy-out-symbol
-    mul-symbol-2
-    add-symbol
-    shared-slice-copy-out-symbol-2
-    symbol-requires
-    told-requires
+    single-requires
     stretch-requires
-    add-t36
+    add-single
+    single-requires-2
+    stretch-requires-2
+    add-t43
     no-events-requires
     no-runs-requires
     same-length
@@ -108,4 +129,8 @@ turn-spec =
     returns
     same-length-4
     same-length-5
-    returns-2)
+    same-length-6
+    returns-2
+    same-length-7
+    same-length-8
+    returns-3)
