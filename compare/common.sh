@@ -10,6 +10,7 @@ phase_replay=${PHASE_REPLAY:-$root/target/bin/phase_replay}
 demap_replay=${DEMAP_REPLAY:-$root/target/bin/demap_replay}
 eq_replay=${EQ_REPLAY:-$root/target/bin/eq_replay}
 frame_replay=${FRAME_REPLAY:-$root/target/bin/frame_replay}
+bench_program=${BENCH:-$root/target/bin/bench}
 phy=crates/isdbs3-phy/src
 core=crates/isdbs3-core/src
 
