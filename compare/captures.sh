@@ -36,11 +36,11 @@ make cut --kind cut --periods 34 --slot 108
 make cut-0 --kind cut --periods 30 --offset 0 --slot 109
 make cut-last --kind cut --periods 30 --offset 9295 --bits 2
 make cut-last-s --kind cut --periods 30 --offset 9295 --bits 5 --slot 110
-make markers --kind markers --periods 32 --noise 3
+make markers-clean --kind markers --periods 32
 make markers-last --kind markers --periods 32 --offset 9295 --bits 4
 make markers-no-mark --kind markers --periods 28 --slot 30 --slot-again 31
 make unmarked --kind unmarked --periods 252
-make unmarked-last --kind unmarked --periods 252 --offset 9295 --slot 108
+make unmarked-last --kind unmarked --periods 254 --offset 9295
 make noise --kind noise --periods 12
 make loud --periods 8 --level 300 --noise 40 --kind noisy
 make faint --periods 12 --level 1.5
@@ -64,8 +64,17 @@ play() {
     [ "$status" -le 127 ] || { echo "$0: bench ended with status $status"; exit 1; }
 }
 
+# What some captures are made for: their losses with a line before and after, joined by |.
+# At the last position a loss by markers is followed by a period of zeros, a loss by periods by soft lines, with its head before it.
+declare -A purpose=(
+    [cut]='lost [0-9]+[|]period [1-9]' [cut-0]='lost [0-9]+[|]period [1-9]'
+    [cut-last]='head [0-9]+ S .*[|]lost [0-9]+[|]soft [0-9]+ 9291 ' [cut-last-s]='head [0-9]+ F .*[|]lost [0-9]+[|]soft [0-9]+ 9291 '
+    [least-size]='lost [0-9]+[|]period 0 0 0 0[|]' [markers]='lost [0-9]+[|]period [1-9]'
+    [unmarked]='lost [0-9]+[|]period [1-9]' [unmarked-last]='lost [0-9]+[|]period 0 0 0 0[|]'
+)
+
 captures=0 counted=0 bytes=0 by_hand=0 seen=$made/seen
-for capture in "$made"/*.cap; do
+for capture in "$made"/*.cap "$root"/captures/*.cap; do
     name=$(basename "$capture" .cap)
     "$lines" <"$capture" >"$made/owed" &
     play <"$capture"
@@ -78,6 +87,9 @@ for capture in "$made"/*.cap; do
     captures=$((captures + 1))
     read -r l b < <(wc -lc <"$made/owed")
     counted=$((counted + l)) bytes=$((bytes + b))
+    if [ -n "${purpose[$name]:-}" ]; then
+        grep -B1 -A1 '^lost' "$made/owed" | tr '\n' '|' | grep -qE "${purpose[$name]}" || { echo "$0: $name has not the loss it is made for"; exit 1; }
+    fi
     # what kinds of lines there were
     grep -v '^soft' "$made/owed" >>"$seen" || true
     awk '/^soft/ { print "width", NF - 3; exit }' "$made/owed" >>"$seen"
@@ -97,5 +109,9 @@ for name in base contents-of-32 table-end-after-1 symbols-end-after-3 1-bytes-fo
     compared "$name" 'odd pieces'
     pieces=$((pieces + 1))
 done
+
+# the picture in docs is made of the sample's lines
+"$lines" <"$root/captures/markers.cap" | "$root/tools/report" --svg "$made/report.svg"
+cmp -s "$made/report.svg" "$root/docs/report.svg" || { echo "$0: docs/report.svg is not that of captures/markers.cap"; exit 1; }
 rm -f "$made/told" "$made/owed"
 echo "captures: $captures played, $by_hand of them with lines owed by document 01, $pieces again in odd pieces: $counted lines, $bytes bytes, no difference"
