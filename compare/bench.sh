@@ -5,7 +5,7 @@ set -eu
 . "$(dirname "$0")/common.sh"
 need_rust
 need_port
-for bench in sync_bench phase_bench demap_bench eq_bench; do
+for bench in sync_bench phase_bench demap_bench eq_bench receiver_bench; do
     [ -f "$port/lib$bench.a" ] || { echo "$0: no lib$bench.a in $port: run 'rt staticlib $bench' first" >&2; exit 1; }
 done
 out=$root/target/compare
@@ -19,7 +19,8 @@ program "$out/fast" bench_sync.rs "$out/bench_sync" -C lto=fat -L "native=$port"
 program "$out/fast" bench_demap.rs "$out/bench_demap" -C lto=fat -L "native=$port" -l static=demap_bench
 program "$out/fast" bench_eq.rs "$out/bench_eq" -C lto=fat -L "native=$port" -l static=eq_bench
 program "$out/fast" bench_phase.rs "$out/bench_phase" -C lto=fat -L "native=$port" -l static=phase_bench --extern isdb_frontend
-for bench in bench_fx bench_sync bench_phase bench_demap bench_eq; do
+program "$out/fast" bench_receiver.rs "$out/bench_receiver" -C lto=fat -L "native=$port" -l static=receiver_bench --extern isdb_frontend --extern isdbs3_core
+for bench in bench_fx bench_sync bench_phase bench_demap bench_eq bench_receiver; do
     "$out/$bench" time
     echo
 done
@@ -87,4 +88,20 @@ for entry in 'filter none 9296' 'train pushes 1000' 'solve none 50'; do
     rust=$(instructions bench_eq "$1" rust)
     ours=$(instructions bench_eq "$1" port)
     line "$1" $((rust - less)) $((ours - none)) "$3"
+done
+
+# .. of eight periods of a locked receiver
+receives() {
+    echo $(($(instructions bench_receiver "$1" "$2" "$3" 16) - $(instructions bench_receiver "$1" "$2" "$3" 8)))
+}
+
+echo
+printf '%-14s %9s %9s %6s\n' 'instructions' Rust port ratio
+for entry in feed symbol; do
+    for bits in 1 3 5; do
+        none=$(receives $entry $bits none)
+        rust=$(receives $entry $bits rust)
+        ours=$(receives $entry $bits port)
+        line "$entry $bits" $((rust - none)) $((ours - none)) $((8 * 9296))
+    done
 done

@@ -10,6 +10,7 @@ phase_replay=${PHASE_REPLAY:-$root/target/bin/phase_replay}
 demap_replay=${DEMAP_REPLAY:-$root/target/bin/demap_replay}
 eq_replay=${EQ_REPLAY:-$root/target/bin/eq_replay}
 frame_replay=${FRAME_REPLAY:-$root/target/bin/frame_replay}
+receiver_replay=${RECEIVER_REPLAY:-$root/target/bin/receiver_replay}
 bench_program=${BENCH:-$root/target/bin/bench}
 phy=crates/isdbs3-phy/src
 core=crates/isdbs3-core/src
@@ -40,7 +41,7 @@ need_port() {
 # Ends the script where a replay program of the port has not been made.
 need_replay() {
     local program
-    for program in "$sync_replay" "$phase_replay" "$demap_replay" "$eq_replay" "$frame_replay"; do
+    for program in "$sync_replay" "$phase_replay" "$demap_replay" "$eq_replay" "$frame_replay" "$receiver_replay"; do
         [ -x "$program" ] && continue
         echo "$0: no $program: run 'rt check $(basename "$program")' first" >&2
         exit 1

@@ -8,4 +8,5 @@ need_replay
 [ $# -gt 0 ] || "$here/traces.sh" --check
 "$here/build.sh"
 export SYNC_REPLAY=$sync_replay PHASE_REPLAY=$phase_replay DEMAP_REPLAY=$demap_replay EQ_REPLAY=$eq_replay FRAME_REPLAY=$frame_replay
+export RECEIVER_REPLAY=$receiver_replay
 exec "$root/target/compare/compare" "$@"

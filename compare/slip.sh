@@ -1,5 +1,5 @@
 #!/bin/bash
-# slip.sh [fx] [sync] [phase] [demap] [eq] [frame]: shows that the comparison can fail. Links `compare` to a stand-in for the port's C functions, made of
+# slip.sh [fx] [sync] [phase] [demap] [eq] [frame] [receiver]: shows that the comparison can fail. Links `compare` to a stand-in for the port's C functions, made of
 # the Rust itself, and gives it stand-ins for the replay programs, made of the models. Plants one slip after another in them:
 # each must be found, of fx in its function; no slip, no difference.
 set -eu
@@ -18,12 +18,12 @@ with_port "$out"
 program "$out/libs" main.rs "$out/compare" "${port_flags[@]}"
 
 # a stand-in for a stage's replay program
-for stage in sync phase demap eq frame; do
+for stage in sync phase demap eq frame receiver; do
     rustc --edition 2021 -C opt-level=3 -L "$out/libs" --extern isdbs3_phy --extern cases \
         -o "$out/${stage}_stand_in" "$here/slip/${stage}_stand_in.rs"
 done
 export SYNC_REPLAY=$out/sync_stand_in PHASE_REPLAY=$out/phase_stand_in DEMAP_REPLAY=$out/demap_stand_in EQ_REPLAY=$out/eq_stand_in
-export FRAME_REPLAY=$out/frame_stand_in
+export FRAME_REPLAY=$out/frame_stand_in RECEIVER_REPLAY=$out/receiver_stand_in
 
 # slips FILE: the names of the slips in a stand-in, each with its function if it has one
 slips() {
@@ -49,7 +49,7 @@ find_all() {
     echo "all $found planted slips of $part were found"
 }
 
-[ $# -gt 0 ] || set -- fx sync phase demap eq frame
+[ $# -gt 0 ] || set -- fx sync phase demap eq frame receiver
 for part; do
     case $part in
         fx) find_all fx stand_in.rs 17 ;;
@@ -58,6 +58,7 @@ for part; do
         demap) find_all demap soft.rs 9 && find_all demap demap_stand_in.rs 23 ;;
         eq) find_all eq eq_stand_in.rs 26 ;;
         frame) find_all frame place.rs 4 && find_all frame frame_stand_in.rs 30 ;;
-        *) echo "usage: slip.sh [fx] [sync] [phase] [demap] [eq] [frame]" >&2; exit 2 ;;
+        receiver) find_all receiver receiver_stand_in.rs 23 ;;
+        *) echo "usage: slip.sh [fx] [sync] [phase] [demap] [eq] [frame] [receiver]" >&2; exit 2 ;;
     esac
 done

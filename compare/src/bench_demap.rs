@@ -51,7 +51,16 @@ fn port(input: &Input, out: &mut [i8]) {
     let (sy, points) = (input.symbols.as_flattened(), input.points.as_flattened());
     // SAFETY: slices by their pointers and lengths; the port writes out only.
     let refusal = unsafe {
-        sv_bench_demap(sy.as_ptr(), sy.len(), points.as_ptr(), points.len(), input.bits, SCALE, out.as_mut_ptr(), out.len())
+        sv_bench_demap(
+            sy.as_ptr(),
+            sy.len(),
+            points.as_ptr(),
+            points.len(),
+            input.bits,
+            SCALE,
+            out.as_mut_ptr(),
+            out.len(),
+        )
     };
     assert_eq!(refusal, 0);
 }

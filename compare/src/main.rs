@@ -1,4 +1,4 @@
-//! compare [fx] [sync] [phase] [demap] [eq] [frame] [--quick | --full] [--seed N]: the port beside the Rust, on the same inputs.
+//! compare [fx] [sync] [phase] [demap] [eq] [frame] [receiver] [--quick | --full] [--seed N]: the port beside the Rust, on the same inputs.
 //! Without a part: all.
 
 mod check;
@@ -8,6 +8,7 @@ mod frame_check;
 mod fx_check;
 mod phase_check;
 mod port;
+mod receiver_check;
 mod replay;
 mod stage_check;
 mod sync_check;
@@ -25,6 +26,7 @@ struct Arguments {
     demap: bool,
     eq: bool,
     frame: bool,
+    receiver: bool,
     /// Random calls a function of fx.
     calls: u64,
     size: Size,
@@ -32,7 +34,7 @@ struct Arguments {
 }
 
 fn usage() -> ! {
-    eprintln!("usage: compare [fx] [sync] [phase] [demap] [eq] [frame] [--quick | --full] [--seed NUMBER]");
+    eprintln!("usage: compare [fx] [sync] [phase] [demap] [eq] [frame] [receiver] [--quick | --full] [--seed NUMBER]");
     std::process::exit(2)
 }
 
@@ -44,6 +46,7 @@ fn arguments() -> Arguments {
         demap: false,
         eq: false,
         frame: false,
+        receiver: false,
         calls: RANDOM,
         size: Size::Short,
         seed: SEED,
@@ -57,14 +60,15 @@ fn arguments() -> Arguments {
             "demap" => a.demap = true,
             "eq" => a.eq = true,
             "frame" => a.frame = true,
+            "receiver" => a.receiver = true,
             "--quick" => a.calls = QUICK,
             "--full" => a.size = Size::Full,
             "--seed" => a.seed = words.next().and_then(|n| n.parse().ok()).unwrap_or_else(|| usage()),
             _ => usage(),
         }
     }
-    if !(a.fx || a.sync || a.phase || a.demap || a.eq || a.frame) {
-        (a.fx, a.sync, a.phase, a.demap, a.eq, a.frame) = (true, true, true, true, true, true);
+    if !(a.fx || a.sync || a.phase || a.demap || a.eq || a.frame || a.receiver) {
+        (a.fx, a.sync, a.phase, a.demap, a.eq, a.frame, a.receiver) = (true, true, true, true, true, true, true);
     }
     a
 }
@@ -88,5 +92,8 @@ fn main() {
     }
     if a.frame {
         frame_check::compare(a.size, a.seed);
+    }
+    if a.receiver {
+        receiver_check::compare(a.size, a.seed);
     }
 }

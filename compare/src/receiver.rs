@@ -1,4 +1,11 @@
-//! The unchanged stages wired as document 01, "The receiver", says, and what the bench program prints of a capture by them.
+//! The unchanged stages wired as document 01, "The receiver", says; what the bench program prints of a capture by them; a receiver made of the
+//! stages' models; calls of the replay program, what they owe, and the calls that are made, by kind.
 
+pub mod calls;
 pub mod capture;
+pub mod desk;
+pub mod kinds;
+pub mod model;
+pub mod player;
+pub mod signal;
 pub mod wired;

@@ -1,9 +1,9 @@
-//! vectors fx|sync|phase|demap|eq|frame DIR: writes DIR/stdin, calls for the replay program, and DIR/stdout, the answers it owes:
+//! vectors fx|sync|phase|demap|eq|frame|receiver DIR: writes DIR/stdin, calls for the replay program, and DIR/stdout, the answers it owes:
 //! the Rust's, and document 01's refusals. The port has no part in it.
 //!
 //! fx, stdin: the carrier table (1,024 i16), then calls of op, a, b. stdout: answers of refusal, x, y.
 //! Numbers of a call or an answer have 8 bytes; all are least byte first.
-//! sync, phase, demap, eq, frame: calls and answers as README.md has them. Where the Rust cannot be asked the answers are the model's.
+//! sync, phase, demap, eq, frame, receiver: calls and answers as README.md has them. Where the Rust cannot be asked the answers are the model's.
 
 use cases::demap::kinds::KINDS as DEMAP_KINDS;
 use cases::demap::player as demap;
@@ -15,6 +15,8 @@ use cases::fx::{Answer, Function, Kind, FUNCTIONS};
 use cases::inputs::{self, Pair, Random, Size};
 use cases::phase::kinds::KINDS;
 use cases::phase::player as phase;
+use cases::receiver::kinds::sample as receiver_sample;
+use cases::receiver::player as receiver;
 use cases::stage::{self, Sink};
 use cases::sync::player::{Owed, Player, Telling};
 use cases::sync::streams;
@@ -129,6 +131,14 @@ fn frame_files() -> Files {
     })
 }
 
+fn receiver_files() -> Files {
+    stage_files(|sink| {
+        let mut player = receiver::Player::new(SEED, sink);
+        receiver_sample(&mut player, &mut Random(SEED));
+        player.end();
+    })
+}
+
 fn fx_files() -> Files {
     let mut random = Random(SEED);
     let table = inputs::cosine_table();
@@ -145,7 +155,7 @@ fn fx_files() -> Files {
 }
 
 fn usage() -> ! {
-    eprintln!("usage: vectors fx|sync|phase|demap|eq|frame DIR");
+    eprintln!("usage: vectors fx|sync|phase|demap|eq|frame|receiver DIR");
     std::process::exit(2)
 }
 
@@ -159,6 +169,7 @@ fn main() -> std::io::Result<()> {
         "demap" => demap_files(),
         "eq" => eq_files(),
         "frame" => frame_files(),
+        "receiver" => receiver_files(),
         _ => usage(),
     };
     for (name, bytes) in files {

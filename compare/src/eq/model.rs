@@ -126,7 +126,7 @@ impl Rules {
             && (-TURN - self.spare..=TURN + self.spare).contains(&im)
     }
 
-    fn sums_in_range(&self, s: &Sums) -> bool {
+    pub fn sums_in_range(&self, s: &Sums) -> bool {
         let entry = |((r, c), v): ((usize, usize), &[i64])| {
             if r == c {
                 v[1].unsigned_abs() <= self.spare.unsigned_abs()

@@ -167,7 +167,7 @@ impl Row {
         pair.iter().for_each(|&v| self.put(i64::from(v) as u64));
     }
 
-    fn nco(&mut self, nco: &Nco) {
+    pub(crate) fn nco(&mut self, nco: &Nco) {
         self.put(nco.phase.into());
         self.put(i64::from(nco.freq) as u64);
         self.put(nco.trail.is_some().into());
@@ -180,7 +180,7 @@ impl Row {
         [slot.is_some().into(), number.into(), frame.into()].iter().for_each(|&v| self.put(v));
     }
 
-    fn head(&mut self, head: &Head) {
+    pub(crate) fn head(&mut self, head: &Head) {
         self.put(head.at);
         self.put(head.word as u64);
         self.put(head.theta.into());
@@ -202,7 +202,7 @@ impl Row {
     }
 
     /// Without a slot nothing but that is put.
-    fn phase(&mut self, phase: &Phase) {
+    pub(crate) fn phase(&mut self, phase: &Phase) {
         self.put(phase.is_some().into());
         if let Some(Held { head, count }) = phase {
             self.head(head);
@@ -232,7 +232,7 @@ impl<'a> Fields<'a> {
         self.get() != 0
     }
 
-    fn nco(&mut self) -> Nco {
+    pub(crate) fn nco(&mut self) -> Nco {
         let (phase, freq, known) = (self.get() as u32, self.get() as i32, self.flag());
         let steps = Steps { last: self.get() as u32, sum: self.get() as i64, steps: self.get() as u32 };
         Nco { phase, freq, trail: known.then_some(steps) }
@@ -242,7 +242,7 @@ impl<'a> Fields<'a> {
         [Word::Ssync, Word::Fsync, Word::NotFsync][self.get().min(2) as usize]
     }
 
-    fn slot(&mut self) -> Option<(u8, u32)> {
+    pub(crate) fn slot(&mut self) -> Option<(u8, u32)> {
         let known = self.flag();
         let slot = (self.get() as u8, self.get() as u32);
         known.then_some(slot)
@@ -267,7 +267,7 @@ impl<'a> Fields<'a> {
         Head { at, word, theta, amp, slot, corr, nco_phase: self.get() as u32 }
     }
 
-    fn phase(&mut self) -> Phase {
+    pub(crate) fn phase(&mut self) -> Phase {
         let known = self.flag();
         let held = Held { head: self.head(), count: self.get() as u32 };
         known.then_some(held)

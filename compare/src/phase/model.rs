@@ -119,7 +119,7 @@ impl Rules {
 
     // ---- the carrier
 
-    fn nco_in_range(&self, nco: &Nco) -> bool {
+    pub fn nco_in_range(&self, nco: &Nco) -> bool {
         let sums = -126_701_535_232 - self.sum_spare..=126_701_535_173 + self.sum_spare;
         nco.trail.is_none_or(|t| t.steps <= 59 && sums.contains(&t.sum))
     }

@@ -335,3 +335,21 @@ end-within n d i u w e = rw e (if-both (λ (v : ℕ). v ≤ n) (u .done) (u .use
 
 pub stands-same : (a b c x y z : ℕ) (f s : List ℤ) (t : ℕ) → x ≡ a → y ≡ b → z ≡ c → Stands a b c f s t → Stands x y z f s t
 stands-same a b c x y z f s t p q r h = rw (p, q, r) h
+
+-- ---- no more symbols are used than there are
+used-most : (b : Block) (k i : ℕ) (r : Receiver) (l : Lent) → fedFrom b k i r l .used ≤ i + k
+unfolding fedFrom quietAt
+used-most b zero i r l = omega arith
+used-most b (suc k) i r l =
+    let a = symbolAnswer r (inputAt b i) l in
+    let m = symbolLent r (inputAt b i) l in
+    let h = used-most b k (i + 1) (a .receiver) m in
+    if-both (λ (x : Fed). x .used ≤ i + suc k) (eqb (a .refusal) 0) _ _
+    (if-both (λ (x : Fed). x .used ≤ i + suc k) (tellsAny a) _ _ (omega arith) (omega (arith, h)))
+    (omega arith)
+
+pub feed-within : (r : Receiver) (b : Block) (l : Lent) → 2 * feedAnswer r b l .used ≤ length (b .bytes)
+unfolding feedAnswer feedOf quietAt symbolsOf
+feed-within r b l =
+    let h = used-most b (length (b .bytes) / 2) 0 r l in
+    if-both (λ (x : Fed). 2 * x .used ≤ length (b .bytes)) (eqb (feedRefusal r b l) 0) _ _ (omega (arith, h)) (omega arith)

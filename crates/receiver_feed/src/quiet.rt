@@ -1,5 +1,6 @@
 // Symbols that tell nothing, in a loop. The rows come by a reference (docs/BENCHMARKS.md).
 use crate::Moved;
+use phase::SlotPhase;
 use sync_lock::Tally;
 ghost use mathlib.Core.Path.{_≡_};
 ghost use mathlib.Core.Bool.{true};
@@ -8,7 +9,7 @@ ghost use lib.ListN.{length};
 ghost use Rattle.laws.specs.Choice.{if_then_else_};
 ghost use Rattle.sync_corr.specs.Rows.{Unit};
 ghost use Rattle.receiver_bounds.specs.Bounds.{allWithin, tallyWithin};
-ghost use Rattle.receiver_feed.specs.Quiet.{Fits, keptAt, moves, moving};
+ghost use Rattle.receiver_feed.specs.Quiet.{Fits, keptAt, moves, moving, placeIn};
 
 // A symbol into the slot store; past the 9,296th it is ignored.
 fn keep(store: &mut [i16], c: usize, i: i16, q: i16)
@@ -34,7 +35,7 @@ fn up_to(y: Tally, k: usize, n: usize) -> usize
 
 // n of them from symbol i on, the first of which completes the window at place p and puts the one 23 back at place c. It stops before one for which the figures
 // are out of range: no call's own accumulators lead there.
-pub(crate) fn quiet(
+fn quiet(
     y0: Tally,
     phase: u32,
     freq: i32,
@@ -68,5 +69,62 @@ pub(crate) fn quiet(
         taken: k,
         tally: y,
         phase: a,
+    }
+}
+
+// .. by the slot phase: none is held, or the next symbol has its place. Two callers keep `quiet` a function of its own: within another one the compiler would see
+// the rows, and lose the products of 16 bits (docs/BENCHMARKS.md, "receiver").
+pub(crate) fn moved(
+    y0: Tally,
+    phase: u32,
+    freq: i32,
+    bytes: &[i8],
+    i: usize,
+    n: usize,
+    p: usize,
+    s: SlotPhase,
+    rows: &[i16; 192],
+    table: &[i16],
+    win: &mut [i16; 48],
+    acc: &mut [u32],
+    store: &mut [i16],
+) -> Moved
+    requires { ⌜ (length (now win) ≡ 48) × (length (now acc) ≡ 9296) × (length (now store) ≡ 18592) × (length (now table) ≡ 1024) × (2 * (i + n) ≤ length (now bytes)) × (p + n ≤ 9296) × (placeIn s ≤ 9296) × (1 ≤ n) × (Unit (now rows)) × (allWithin 4096 (now win) ≡ true) × (tallyWithin y0 ≡ true) ⌝ }
+    ensures { λ r. ⌜ (moving (now (win .exit)) (r .tally) (now (acc .exit)) (now (store .exit)) (r .phase) ≡ moves (record { bytes = now (bytes .entry); table = now (table .entry); rows = now (rows .entry); freq = freq }) i p (placeIn s) (r .taken) (moving (now (win .entry)) y0 (now (acc .entry)) (now (store .entry)) phase)) × (1 ≤ r .taken) × (r .taken ≤ n) × ((j : ℕ) → j < r .taken → Fits (moves (record { bytes = now (bytes .entry); table = now (table .entry); rows = now (rows .entry); freq = freq }) i p (placeIn s) j (moving (now (win .entry)) y0 (now (acc .entry)) (now (store .entry)) phase))) ⌝ }
+{
+    match s {
+        SlotPhase::Idle => quiet(
+            y0,
+            phase,
+            freq,
+            bytes,
+            i,
+            n,
+            p,
+            9296,
+            rows,
+            table,
+            win,
+            acc,
+            store,
+        ),
+        SlotPhase::Holds(x) => {
+            let c = x.count as usize;
+            quiet(
+                y0,
+                phase,
+                freq,
+                bytes,
+                i,
+                n,
+                p,
+                c,
+                rows,
+                table,
+                win,
+                acc,
+                store,
+            )
+        }
     }
 }

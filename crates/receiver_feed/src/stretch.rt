@@ -19,15 +19,6 @@ ghost use Rattle.sync_block.specs.Quiet.{Ahead, passedRun};
 ghost use Rattle.receiver.specs.Ranges.{receiverInRange};
 ghost use Rattle.receiver_feed.specs.Quiet.{Fits, movesFrom, moving, passedBy, phaseOn, placeIn};
 
-fn place_in(s: SlotPhase) -> usize
-    ensures { λ r. ⌜ r ≡ placeIn s ⌝ }
-{
-    match s {
-        SlotPhase::Idle => 9296,
-        SlotPhase::Holds(x) => x.count as usize,
-    }
-}
-
 fn phase_on(s: SlotPhase, k: usize) -> SlotPhase
     requires { ⌜ k ≤ 9296 ⌝ }
     ensures { λ r. ⌜ r ≡ phaseOn k s ⌝ }
@@ -142,9 +133,8 @@ pub(crate) fn stretch(
     let z = a.sync;
     let mut win = window_of(z);
     let p = sync_step::ranged::place(y.t);
-    let c = place_in(s);
     let d = freq_of(n);
-    let x = quiet::quiet(
+    let x = quiet::moved(
         y0,
         n.phase,
         d,
@@ -152,7 +142,7 @@ pub(crate) fn stretch(
         i,
         m,
         p,
-        c,
+        s,
         rows,
         table,
         &mut win,

@@ -1,0 +1,622 @@
+//! The calls, by kind.
+
+use super::calls::{Call, PLAY, POINTS, RIGHT};
+use super::player::Player;
+use super::signal::{points, Signal, SLOT};
+use crate::demap::soft::any_points;
+use crate::eq::calls::{Call as EqCall, Equaliser};
+use crate::frame::calls::Ones;
+use crate::inputs::{cosine_table, pick, Random, Size};
+use crate::sync::calls::Event;
+use crate::sync::streams::standard;
+
+const END: u64 = 1 << 62;
+
+pub struct Kind {
+    pub name: &'static str,
+    pub play: fn(&mut Player, &mut Random, Size),
+}
+
+pub const KINDS: [Kind; 12] = [
+    Kind { name: "bench values", play: bench_values },
+    Kind { name: "noise", play: noise },
+    Kind { name: "locked, all bits", play: locked },
+    Kind { name: "offsets 0 and 9,295", play: offsets },
+    Kind { name: "fades and cuts", play: fades },
+    Kind { name: "calls on the way", play: on_the_way },
+    Kind { name: "extreme symbols", play: extremes },
+    Kind { name: "positions", play: positions },
+    Kind { name: "refusals", play: refusals },
+    Kind { name: "full sums", play: full_sums },
+    Kind { name: "damage", play: damage },
+    Kind { name: "markers and their loss", play: markers },
+];
+
+/// As many as the run's size asks for.
+fn times(size: Size, [sample, short, full]: [u64; 3]) -> u64 {
+    match size {
+        Size::Sample => sample,
+        Size::Short => short,
+        Size::Full => full,
+    }
+}
+
+fn random_word(r: &mut Random) -> Ones {
+    std::array::from_fn(|_| if r.below(2) == 0 { 1 } else { -1 })
+}
+
+fn load(p: &mut Player, bits: usize, k: i64) {
+    p.refused(Call::Points { bits: bits as u8, k, count: 2 << bits, points: points(bits) }, 0);
+}
+
+/// Document 01, "Capture" and "Bench values".
+fn bench_values(p: &mut Player, r: &mut Random, size: Size) {
+    let mut bpsk = [0; POINTS];
+    bpsk[..4].copy_from_slice(&[724, 724, -724, -724]);
+    // in a sample the table stays zero: 1,024 calls less
+    let table = if size == Size::Sample { Vec::new() } else { vec![32_767; 1_024] };
+    p.start(&[[1; 48]; 2], &table, 0, 0);
+    p.refused(Call::Points { bits: 1, k: 0, count: 4, points: bpsk }, 0);
+    let mut told = Vec::new();
+    for k in 0..9_319 {
+        let answer = p.push([0; 2]);
+        told.extend(answer.events.into_iter().filter(|&e| e != Event::Nothing).map(|e| (k, e)));
+    }
+    let zeros = Event::Period { peak: 0, place: 0, sum: 0, locked: false, offset: 0, parity: 0, stray: 0, missed: 0 };
+    assert_eq!(told, [(9_318, zeros)], "zero symbols");
+    if size != Size::Sample {
+        marker_loss(p, r, 9_295);
+    }
+}
+
+/// Heads at this offset; two frames without marks.
+fn marker_loss(p: &mut Player, r: &mut Random, offset: u32) {
+    let mut signal = Signal::new(standard(), 60.0, 2);
+    signal.turn = 2e-6;
+    p.start(&signal.words, &cosine_table(), 1_000_000, 0);
+    load(p, 2, 100_000);
+    for _ in 0..offset {
+        p.push([0; 2]);
+    }
+    // so that the loss comes shortly before a setting of the carrier's step
+    signal.slot = 3;
+    for _ in 0..122 * SLOT {
+        p.push(signal.next(r));
+    }
+    signal.marks = false;
+    let mut lost = None;
+    for _ in 0..240 * SLOT {
+        let answer = p.push(signal.next(r));
+        if answer.events.iter().any(|e| matches!(e, Event::Lost { .. })) {
+            lost = Some(answer);
+            break;
+        }
+    }
+    let lost = lost.expect("a loss by markers");
+    if offset == 9_295 {
+        let at = p.desk.receiver.next() as u64;
+        let zeros =
+            Event::Period { peak: 0, place: 0, sum: 0, locked: false, offset: 0, parity: 0, stray: 0, missed: 0 };
+        assert_eq!(lost.events, [Event::Lost { at }, zeros, Event::Nothing], "offset 9,295 and a marker loss");
+    }
+    p.look();
+    // a lock again, and a mark, whose frame the record numbers
+    (signal.marks, signal.slot) = (true, 107);
+    for _ in 0..20 * SLOT {
+        p.push(signal.next(r));
+    }
+}
+
+fn noise(p: &mut Player, r: &mut Random, size: Size) {
+    for reach in [1, 3, 20, 128] {
+        p.start(&standard(), &cosine_table(), r.below(1 << 50) as u64, r.next() as i32);
+        load(p, 3, 100_000);
+        for _ in 0..times(size, [0, 60_000, 4_000_000]) {
+            let symbol = [0; 2].map(|_| (r.below(2 * reach + 1) - reach as i64).clamp(-128, 127) as i8);
+            p.push(symbol);
+        }
+    }
+}
+
+/// A signal of any strength, noise and carrier.
+fn any_signal(words: [Ones; 2], bits: usize, r: &mut Random) -> Signal {
+    let amplitude = pick(r, &[4.0, 15.0, 40.0, 70.0, 100.0]);
+    let mut signal = Signal::new(words, amplitude, bits);
+    signal.noise = pick(r, &[0, 0, 1, (amplitude / 6.0) as u64, (amplitude / 3.0) as u64]);
+    signal.phase = r.below(1_000) as f64 / 1_000.0;
+    signal.turn = pick(r, &[0.0, 1e-7, -3e-6, 1e-5, 4e-5]);
+    signal.drift = pick(r, &[0.0, 0.0, 1e-13, -1e-12]);
+    signal.slot = r.below(120) as u32;
+    signal.j = r.below(u64::from(SLOT)) as u32;
+    signal.sign = pick(r, &[1.0, -1.0]);
+    signal.payload = pick(r, &[1.0, 1.0, 0.5, 0.0]);
+    signal
+}
+
+/// Sums on and off, so that each lock trains.
+fn train(p: &mut Player, k: u32) {
+    p.ask(Call::End);
+    p.refused(Call::Open(k), 0);
+}
+
+fn locked(p: &mut Player, r: &mut Random, size: Size) {
+    for turn in 0..times(size, [1, 5, 60]) {
+        let bits = 1 + (turn % 5) as usize;
+        let mut signal = any_signal(standard(), bits, r);
+        p.start(&signal.words, &cosine_table(), r.below(1 << 60) as u64, (r.below(2_001) - 1_000) as i32);
+        load(p, bits, pick(r, &[81_722, 1 << 20, 1 << 24]));
+        train(p, turn as u32);
+        for k in 0..times(size, [7, 15, 160]) * u64::from(SLOT) {
+            p.push(signal.next(r));
+            if k % 100_003 == 0 {
+                p.look();
+            }
+        }
+        p.ask(Call::End);
+        p.look();
+    }
+}
+
+/// The heads at the period's ends and beside them.
+fn offsets(p: &mut Player, r: &mut Random, size: Size) {
+    for offset in [0, 9_295, 1, 9_294].into_iter().take(times(size, [0, 2, 4]) as usize) {
+        let mut signal = any_signal([random_word(r), random_word(r)], 3, r);
+        (signal.amplitude, signal.payload, signal.j, signal.noise) = (40.0, 0.4, 0, 2);
+        p.start(&signal.words, &cosine_table(), r.below(1 << 40) as u64, 0);
+        load(p, 3, 90_000);
+        for _ in 0..offset {
+            p.push([0; 2]);
+        }
+        for _ in 0..times(size, [0, 9, 200]) * u64::from(SLOT) {
+            p.push(signal.next(r));
+        }
+        // the signal moves and is stronger: heads are read on at the old place until the lock is lost, then it locks anew
+        signal.amplitude = 110.0;
+        (0..100 + r.below(500)).for_each(|_| _ = signal.next(r));
+        for _ in 0..times(size, [0, 26, 60]) * u64::from(SLOT) {
+            p.push(signal.next(r));
+        }
+    }
+}
+
+/// The signal goes away and comes back, loses symbols, has some twice.
+fn fades(p: &mut Player, r: &mut Random, size: Size) {
+    for _ in 0..times(size, [0, 1, 40]) {
+        let mut signal = any_signal(standard(), 4, r);
+        signal.amplitude = 60.0;
+        p.start(&signal.words, &cosine_table(), r.below(1 << 60) as u64, 0);
+        load(p, 4, 200_000);
+        for turn in 0..6 {
+            train(p, turn);
+            for _ in 0..(5 + r.below(5)) * i64::from(SLOT) {
+                p.push(signal.next(r));
+            }
+            match r.below(4) {
+                0 => {
+                    let strength = signal.amplitude;
+                    signal.amplitude = pick(r, &[0.0, 3.0]);
+                    for _ in 0..(1 + r.below(14)) * i64::from(SLOT) {
+                        p.push(signal.next(r));
+                    }
+                    signal.amplitude = strength;
+                }
+                1 => {
+                    for _ in 0..1 + r.below(400) {
+                        signal.next(r);
+                    }
+                    for _ in 0..14 * SLOT {
+                        p.push(signal.next(r));
+                    }
+                }
+                2 => {
+                    for _ in 0..1 + r.below(30) {
+                        let x = signal.next(r);
+                        p.push(x);
+                        p.push(x);
+                    }
+                    for _ in 0..10 * SLOT {
+                        p.push(signal.next(r));
+                    }
+                }
+                _ => signal.turn += 2e-6,
+            }
+            p.look();
+        }
+    }
+}
+
+fn any_taps(r: &mut Random) -> [i16; 22] {
+    match r.below(3) {
+        0 => std::array::from_fn(|_| r.next() as i16),
+        1 => std::array::from_fn(|k| if k == 10 { 16_384 } else { r.signed(11) as i16 }),
+        _ => std::array::from_fn(|_| pick(r, &[i16::MIN, -1, 0, 1, i16::MAX])),
+    }
+}
+
+/// One call that is not a symbol, at any moment.
+fn any_call(p: &mut Player, r: &mut Random) {
+    let call = match r.below(12) {
+        0 | 1 => {
+            let bits = 1 + r.below(5) as usize;
+            let mut all = [0; POINTS];
+            all[..2 << bits].copy_from_slice(&any_points(bits, r));
+            Call::Points { bits: bits as u8, k: r.positive(24), count: 2 << bits, points: all }
+        }
+        2 | 3 => Call::Taps { frame: r.next() as u32, taps: any_taps(r) },
+        4 | 5 => Call::Open(r.next() as u32),
+        6 | 7 => Call::End,
+        8 => Call::Look,
+        9 => Call::Event(r.below(4) as u64),
+        10 if r.below(4) == 0 => {
+            let at = p.desk.receiver.next() as u64 + r.positive(30) as u64;
+            Call::Restart { at, acc: 9_296 }
+        }
+        _ => Call::Eq(crate::eq::calls::Call::Tell),
+    };
+    p.refused(call, 0);
+}
+
+fn on_the_way(p: &mut Player, r: &mut Random, size: Size) {
+    for _ in 0..times(size, [0, 2, 100]) {
+        let mut signal = any_signal([random_word(r), random_word(r)], 5, r);
+        (signal.amplitude, signal.payload) = (55.0, 0.7);
+        p.start(&signal.words, &cosine_table(), r.below(1 << 60) as u64, r.signed(12) as i32);
+        let often = pick(r, &[700, 9_000, 60_000]);
+        for _ in 0..40 * SLOT {
+            p.push(signal.next(r));
+            if r.below(often) == 0 {
+                any_call(p, r);
+            }
+        }
+    }
+}
+
+/// Symbols, tables and words at their ends.
+fn extremes(p: &mut Player, r: &mut Random, size: Size) {
+    const PARTS: [i8; 6] = [-128, -127, -1, 0, 1, 127];
+    for _ in 0..times(size, [0, 2, 40]) {
+        let table: Vec<i16> = match r.below(3) {
+            0 => (0..1_024).map(|_| r.next() as i16).collect(),
+            1 => vec![pick(r, &[i16::MIN, i16::MAX, 1]); 1_024],
+            _ => (0..1_024).map(|_| pick(r, &[i16::MIN, i16::MAX])).collect(),
+        };
+        p.start(&[random_word(r), random_word(r)], &table, r.below(1 << 40) as u64, r.next() as i32);
+        load(p, 1 + r.below(5) as usize, r.positive(24));
+        let mut left = 60_000;
+        while left > 0 {
+            let longest = pick(r, &[1, 2, 30, 3_000]);
+            let count = (1 + r.below(longest)).min(left);
+            let symbol = [pick(r, &PARTS), pick(r, &PARTS)];
+            (0..count).for_each(|_| drop(p.push(symbol)));
+            left -= count;
+        }
+        // one symbol again and again, and a symbol a period, lock
+        let mut signal = Signal::new(p.desk.words, 127.0, 1);
+        signal.payload = pick(r, &[0.0, 1.0]);
+        for _ in 0..9 * SLOT {
+            p.push(signal.next(r));
+        }
+    }
+}
+
+/// The end of all positions.
+fn positions(p: &mut Player, r: &mut Random, size: Size) {
+    let words = standard();
+    for at in [END, END + 1, u64::MAX - 1, u64::MAX] {
+        p.start(&words, &cosine_table(), at, 0);
+        p.refuses([1; 2], 7);
+        p.refuses([1; 2], 7);
+    }
+    p.start(&words, &cosine_table(), END - 2, 7);
+    for refusal in [0, 0, 7, 7] {
+        p.refuses([9, -9], refusal);
+    }
+    // no restart below the next symbol's position
+    for at in [0, 100, END - 40] {
+        p.start(&words, &cosine_table(), at, 0);
+        (0..30).for_each(|_| drop(p.push([3, 4])));
+        for (restart, refusal) in
+            [(at, 7), (at + 29, 7), (at + 30, 0), (at + 29, 7), (at + 31, 0), (END, 0), (END - 1, 7)]
+        {
+            p.refused(Call::Restart { at: restart, acc: 9_296 }, refusal);
+            p.look();
+        }
+    }
+    // a lock shortly before the end: with a slot up to the very last symbol
+    for turn in 0..times(size, [0, 2, 12]) {
+        let mut signal = any_signal(words, 2, r);
+        (signal.amplitude, signal.payload, signal.noise) = (50.0, 0.5, 1);
+        let at = END - 7 * u64::from(SLOT) - r.below(20_000) as u64 - turn;
+        p.start(&words, &cosine_table(), at, 0);
+        load(p, 2, 90_000);
+        p.refused(Call::Open(1), 0);
+        while p.push(signal.next(r)).refusal == 0 {}
+        for _ in 0..PLAY {
+            p.refuses([5, 5], 7);
+        }
+        p.ask(Call::End);
+        p.look();
+    }
+}
+
+/// Frames with marks, marks that are missed, a loss by them at several offsets.
+fn markers(p: &mut Player, r: &mut Random, size: Size) {
+    for offset in [0, 1_234, 9_295, 4_000].into_iter().take(times(size, [0, 0, 4]) as usize) {
+        marker_loss(p, r, offset);
+    }
+    for _ in 0..times(size, [0, 0, 6]) {
+        let mut signal = any_signal(standard(), 3, r);
+        (signal.amplitude, signal.payload, signal.noise) = (50.0, 0.6, 3);
+        p.start(&signal.words, &cosine_table(), r.below(1 << 40) as u64, 0);
+        load(p, 3, 90_000);
+        for k in 0..5 * 120 * SLOT {
+            // about a mark in four is missed, and one head in a hundred has the other sign
+            if signal.j == 0 {
+                signal.marks = r.below(4) != 0;
+                if r.below(100) == 0 {
+                    signal.sign = -signal.sign;
+                }
+            }
+            p.push(signal.next(r));
+            if k % 500_000 == 0 {
+                train(p, k);
+            }
+        }
+    }
+}
+
+/// A table that is right about the angles of a signal without a carrier, and zero elsewhere: few entries to set.
+fn sparse_table() -> Vec<i16> {
+    let near = |k: usize| [0, 256, 512, 768, 1_024].iter().any(|&middle: &usize| k.abs_diff(middle) < 5);
+    cosine_table().into_iter().enumerate().map(|(k, v)| if near(k) { v } else { 0 }).collect()
+}
+
+/// For the files that the replay program is run on: one lock with soft bits and training, and every kind of refusal.
+pub fn sample(p: &mut Player, r: &mut Random) {
+    bench_values(p, r, Size::Sample);
+    let mut signal = Signal::new(standard(), 60.0, 2);
+    (signal.noise, signal.slot, signal.payload) = (2, 115, 0.6);
+    p.start(&signal.words, &sparse_table(), 1_000, 0);
+    load(p, 2, 90_000);
+    p.refused(Call::Open(7), 0);
+    for k in 0..6 * SLOT + 300 {
+        p.push(signal.next(r));
+        if k == 5 * SLOT + 5_000 {
+            p.refused(Call::Taps { frame: 3, taps: std::array::from_fn(|k| if k == 10 { 16_000 } else { 90 }) }, 0);
+        }
+    }
+    p.refused(Call::End, 0);
+    p.refused(Call::End, 0);
+    refusals(p, r, Size::Sample);
+    p.refused(Call::Restart { at: 100_000, acc: 9_296 }, 0);
+    p.look();
+    p.start(&signal.words, &sparse_table(), END - 2, 7);
+    for refusal in [0, 0, 7, 7] {
+        p.refuses([9, -9], refusal);
+    }
+}
+
+/// Stores and tables of a wrong length, words with a wrong entry, loads that are refused: which number, which first, and that nothing changes.
+fn refusals(p: &mut Player, r: &mut Random, size: Size) {
+    if size != Size::Sample {
+        p.start(&standard(), &cosine_table(), 77, 5);
+        (0..200).for_each(|_| drop(p.push([r.next() as i8, r.next() as i8])));
+    }
+    let right = p.desk.words;
+    let mut wrong = right;
+    wrong[1][47] = 0;
+    for (k, lengths) in
+        [[0, 1_023, 1_025], [9_295, 9_297, 0], [18_591, 18_593, 0], [44_879, 0, 1]].into_iter().enumerate()
+    {
+        for length in lengths {
+            let mut lent = RIGHT;
+            lent[k] = length;
+            p.lend(lent);
+            p.refuses([5, 5], if k == 0 { 3 } else { 1 });
+            p.ask(Call::Words(wrong));
+            p.refuses([5, 5], if k == 0 { 2 } else { 1 });
+            p.ask(Call::Words(right));
+            p.look();
+        }
+    }
+    p.lend([1_024, 9_296, 18_592, 44_880]);
+    p.refuses([5, -5], 0);
+    p.lend(RIGHT);
+    for (k, entry) in [(0, 0), (47, 2), (48, -2), (95, 127), (60, -128)] {
+        let mut wrong = right;
+        wrong[k / 48][k % 48] = entry;
+        p.ask(Call::Words(wrong));
+        p.refuses([7, -7], 2);
+    }
+    p.ask(Call::Words(right));
+    p.refuses([7, -7], 0);
+    for acc in [0, 9_295, 9_297] {
+        p.refused(Call::Restart { at: END, acc }, 1);
+        p.refused(Call::Restart { at: 0, acc }, 1);
+    }
+    p.refused(Call::Restart { at: 0, acc: 9_296 }, 7);
+    let mut points = [0; POINTS];
+    points.iter_mut().for_each(|v| *v = r.next() as i16);
+    for (bits, count, k, refusal) in [
+        (0, 2, 5, 4),
+        (6, 80, 5, 4),
+        (255, 4, 5, 4),
+        (1, 3, 5, 4),
+        (1, 5, 5, 4),
+        (5, 63, -1, 4),
+        (5, 80, 5, 4),
+        (5, 64, -1, 5),
+        (5, 64, (1 << 24) + 1, 5),
+        (2, 8, i64::MIN, 5),
+        (2, 8, i64::MAX, 5),
+        (5, 64, 1 << 24, 0),
+        (3, 16, 0, 0),
+    ] {
+        p.refused(Call::Points { bits, k, count, points }, refusal);
+    }
+    p.look();
+}
+
+/// The equaliser's single numbers replaced.
+fn bend(p: &mut Player, change: impl FnOnce(&mut Equaliser)) {
+    let mut e = p.desk.receiver.eq;
+    change(&mut e);
+    let (filled, from, opened) = (e.filled, e.from, e.opened);
+    p.ask(Call::Eq(EqCall::PutNumbers { filled, from, opened, frame: e.sums.frame, count: e.sums.count }));
+}
+
+/// A training count at its limit: a slot makes 24 trainings, or 5 fewer if it is the first. It is all of them or none.
+fn full_sums(p: &mut Player, r: &mut Random, size: Size) {
+    const LIMIT: u32 = 4_194_304;
+    for spare in [0, 1, 18, 19, 23, 24, 25].into_iter().take(times(size, [0, 4, 7]) as usize) {
+        let mut signal = Signal::new(standard(), 50.0, 1);
+        (signal.noise, signal.payload, signal.slot) = (1, 0.5, 3);
+        p.start(&signal.words, &cosine_table(), 1 << 33, 0);
+        load(p, 1, 90_000);
+        let mut slots = 0;
+        let mut refused = 0;
+        for _ in 0..9 * SLOT {
+            let answer = p.push(signal.next(r));
+            slots += u32::from(answer.corrected > 0);
+            if answer.corrected > 0 && slots == 2 {
+                p.refused(Call::Open(5), 0);
+                bend(p, |e| e.sums.count = LIMIT - spare);
+            }
+            if answer.refusal != 0 {
+                assert_eq!(answer.refusal, 8);
+                refused += 1;
+                p.look();
+                // nothing has changed: the same symbol is refused again, and taken once there is room
+                let x = signal.next(r);
+                p.refuses(x, 8);
+                bend(p, |e| e.sums.count -= 100);
+                p.refuses(x, 0);
+            }
+        }
+        assert!(refused > 0, "sums that are full");
+        p.refused(Call::End, 0);
+        p.look();
+    }
+}
+
+/// Any arguments at all.
+fn any_length(r: &mut Random, right: u64) -> u64 {
+    match r.below(4) {
+        0 => right,
+        1 => right.wrapping_add(r.near() as u64),
+        2 => r.below(2 * right) as u64,
+        _ => r.next(),
+    }
+}
+
+fn bent_number(r: &mut Random, right: u32) -> u32 {
+    match r.below(6) {
+        0 => r.next() as u32,
+        1 => right.wrapping_add(r.near() as u32),
+        2 => pick(r, &[0, 11, 5, 6, 10, 12]),
+        3 => pick(r, &[4_194_303, 4_194_304, 4_194_305]),
+        _ => right,
+    }
+}
+
+fn wide_entry(r: &mut Random) -> i64 {
+    match r.below(4) {
+        0 => r.next() as i64,
+        1 => pick(r, &[1 << 53, -((1 << 53) - (1 << 38)), (1 << 53) - (1 << 37), 199_011_604_627_456]) + r.near(),
+        _ => r.signed(53),
+    }
+}
+
+/// A part of the equaliser replaced by anything.
+fn any_bend(p: &mut Player, r: &mut Random) -> EqCall {
+    let e = &p.desk.receiver.eq;
+    match r.below(6) {
+        0 => EqCall::PutLine { line: std::array::from_fn(|_| r.next() as i16) },
+        1 => EqCall::PutTaps { taps: any_taps(r) },
+        2 => EqCall::PutUpper { group: r.below(7) as u64, values: std::array::from_fn(|_| wide_entry(r)) },
+        3 => EqCall::PutRight { values: std::array::from_fn(|_| wide_entry(r)) },
+        _ => EqCall::PutNumbers {
+            filled: bent_number(r, e.filled),
+            from: (r.below(2) == 0).then_some(r.next() as u32),
+            opened: r.below(2) == 0,
+            frame: r.next() as u32,
+            count: bent_number(r, e.sums.count),
+        },
+    }
+}
+
+fn any_damage(p: &mut Player, r: &mut Random) {
+    match r.below(12) {
+        0 => {
+            let lent = RIGHT;
+            p.lend(std::array::from_fn(|k| any_length(r, lent[k])));
+            (0..3).for_each(|_| drop(p.push([r.next() as i8, r.next() as i8])));
+            p.lend(RIGHT);
+        }
+        1 => {
+            let right = p.desk.words;
+            let mut words = right;
+            words[r.below(2) as usize][r.below(48) as usize] = r.next() as i8;
+            p.ask(Call::Words(words));
+            (0..3).for_each(|_| drop(p.push([r.next() as i8, r.next() as i8])));
+            p.ask(Call::Words(right));
+        }
+        2 => {
+            let any = r.next();
+            let bits = pick(r, &[0, 1, 2, 3, 4, 5, 6, 200, any as u8]);
+            let count = any_length(r, 2u64.wrapping_shl(bits.into()));
+            let points = std::array::from_fn(|_| r.next() as i16);
+            let small = r.positive(24);
+            let k = pick(r, &[0, 1 << 24, (1 << 24) + 1, -1, small, any as i64]);
+            p.ask(Call::Points { bits, k, count, points });
+        }
+        3 => drop(p.ask(Call::Taps { frame: r.next() as u32, taps: any_taps(r) })),
+        4 => drop(p.ask(Call::Open(r.next() as u32))),
+        5 => drop(p.ask(Call::End)),
+        6 => {
+            let next = p.desk.receiver.next() as u64;
+            let any = r.next();
+            let at = pick(r, &[next, next + 1, next.wrapping_sub(1), END, any]);
+            let acc = any_length(r, 9_296);
+            p.ask(Call::Restart { at, acc });
+        }
+        7 => {
+            // a call that there is not
+            let mut call = [0; 24];
+            call.iter_mut().for_each(|n| *n = r.next());
+            p.unknown(call);
+        }
+        _ => {
+            let call = any_bend(p, r);
+            p.ask(Call::Eq(call));
+        }
+    }
+}
+
+/// Random calls with any arguments, wrong stores, an equaliser with any numbers: each answer is the model's, that is a refusal by document 01's
+/// number, after which stores and equaliser are as before, or what a taken call gives.
+fn damage(p: &mut Player, r: &mut Random, size: Size) {
+    for _ in 0..times(size, [0, 4, 60]) {
+        let mut signal = any_signal(standard(), 2, r);
+        (signal.amplitude, signal.payload, signal.noise) = (50.0, 0.5, 1);
+        p.start(&signal.words, &cosine_table(), r.below(1 << 60) as u64, 0);
+        let often = pick(r, &[40, 300, 5_000]);
+        for _ in 0..7 * SLOT {
+            p.push(signal.next(r));
+            if r.below(often) == 0 {
+                any_damage(p, r);
+                if r.below(8) == 0 {
+                    p.look();
+                }
+                if p.desk.receiver.next() >= END.into() {
+                    // no symbol is taken there
+                    p.start(&signal.words, &cosine_table(), r.below(1 << 61) as u64, 0);
+                }
+                if !p.desk.receiver.in_range() && r.below(3) != 0 {
+                    // back in range, so that the stream goes on
+                    bend(p, |e| (e.filled, e.opened, e.sums.count) = (if e.filled == 0 { 0 } else { 11 }, false, 0));
+                }
+            }
+        }
+    }
+}

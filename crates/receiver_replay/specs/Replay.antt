@@ -1,0 +1,54 @@
+-- The answers to calls, and what they leave.
+use Prim.Native.Nat.{ℕ, _-_}
+use mathlib.Core.List.{List, [], _∷_}
+use lib.Dec.{ltb}
+use lib.ListN.{getD}
+use Rattle.laws.specs.Choice.{if_then_else_}
+use Rattle.wire.specs.Wire.{numbersOf, packedOf}
+use Rattle.wire.specs.Blocks.{replayed as replayedBy, left}
+use Rattle.eq_calls.specs.Given.{at}
+use Rattle.receiver_replay.specs.declared.kept.Kept.{Kept}
+use Rattle.receiver_replay.specs.declared.kept.Turn.{Turn}
+use Rattle.receiver_replay.specs.Calls.{All, Moved, moved, unmoved, plain, eqCall, wordsCall, pointsCall, tapsCall, openCall, endCall, eventCall, newTurn, newLeft, restartTurn, restartLeft, lookTurn, setOf, playCall, feedCall}
+
+-- ---- one call: number 0 tells which. In the order of the calls' numbers: those that take no store from 16 on, the others from 64 on.
+-- Refusal 255 where there is no such call
+abbrev pub plains : List ℕ → Kept → List Turn
+plains p k = wordsCall k p ∷ pointsCall k p ∷ tapsCall k p ∷ openCall k p ∷ endCall k ∷ eventCall k p ∷ []
+
+unfoldable pub plainOf : ℕ → List ℕ → Kept → Turn
+plainOf n p k = getD (plains p k) n (plain k 255)
+
+unfoldable pub freeOf : ℕ → List ℕ → Kept → Turn
+freeOf op p k = if ltb op 16 then eqCall op k p else plainOf (op - 16) p k
+
+abbrev pub takers : List ℕ → All → List Moved
+takers p a =
+    moved (newTurn (a .kept) p (a .acc)) (a .table) (newLeft p (a .acc)) (a .store) (a .soft)
+    ∷ moved (restartTurn (a .kept) p (a .acc)) (a .table) (restartLeft (a .kept) p (a .acc)) (a .store) (a .soft)
+    ∷ unmoved a (lookTurn (a .kept) (a .acc) (a .store) (a .soft))
+    ∷ moved (plain (a .kept) 0) (setOf p (a .table)) (a .acc) (a .store) (a .soft)
+    ∷ playCall p a
+    ∷ feedCall p a
+    ∷ []
+
+unfoldable pub storesOf : ℕ → List ℕ → All → Moved
+storesOf n p a = getD (takers p a) n (unmoved a (plain (a .kept) 255))
+
+unfoldable pub turnOf : ℕ → List ℕ → All → Moved
+turnOf op p a = if ltb op 64 then unmoved a (freeOf op p (a .kept)) else storesOf (op - 64) p a
+
+-- ---- calls as bytes
+unfoldable pub answerBytes : All → List ℕ → List ℕ
+answerBytes a s = let p = numbersOf s in packedOf (turnOf (at p 0) p a .told)
+
+unfoldable pub after : All → List ℕ → All
+after a s = let p = numbersOf s in turnOf (at p 0) p a .all
+
+-- the answers to the first n calls of s, each of 192 bytes, and what follows those calls
+abbrev pub replayed : All → ℕ → List ℕ → List ℕ
+replayed a n s = replayedBy 192 answerBytes after a n s
+
+-- .. and what those calls leave
+abbrev pub leftOf : All → ℕ → List ℕ → All
+leftOf a n s = left 192 after a n s

@@ -1,0 +1,99 @@
+-- Answers as 24 numbers: the refusal, the answer's numbers, and zeros behind them. A negative number is 2^64 more.
+use Prim.Native.Nat.{ℕ, zero, suc}
+use mathlib.Core.List.{List, [], _∷_, _++_}
+use lib.ListN.{length, getD, replicate}
+use Rattle.sync_heads.specs.declared.Head.{Head}
+use Rattle.sync_step.specs.declared.SyncStats.{SyncStats}
+use Rattle.sync_step.specs.declared.Event.{Event}
+use Rattle.sync_step.specs.declared.Event.the-variants.{Nothing, Head as HeadOf, Period, Lost}
+use Rattle.receiver.specs.declared.Ended.{Ended}
+use Rattle.wire.specs.Wire.{bits}
+use Rattle.wire.specs.Digest.{mixedOf}
+use Rattle.slot_wire.specs.Slots.{wordNumber, slotShown}
+use Rattle.eq_calls.specs.Told.{flagOf, sumsShown}
+use Rattle.receiver_replay.specs.declared.play.Played.{Played}
+
+-- ---- the digest of a list of naturals, made as wire's
+unfoldable pub digest32To : List ℕ → ℕ → ℕ
+digest32To l zero = 0
+digest32To l (suc k) = mixedOf (digest32To l k) (getD l k 0)
+
+unfoldable pub digest32Of : List ℕ → ℕ
+digest32Of l = digest32To l (length l)
+
+-- ---- a refusal, or 0, and three numbers
+unfoldable pub fourTold : ℕ → ℕ → ℕ → ℕ → List ℕ
+fourTold refusal x y z = (refusal ∷ x ∷ y ∷ z ∷ []) ++ replicate 20 0
+
+-- ---- events, each with its kind and all its fields
+unfoldable pub headTold : Head → List ℕ
+headTold h =
+    let s = slotShown (h .slot) in
+    (0
+    ∷ 1
+    ∷ h .at
+    ∷ wordNumber (h .word)
+    ∷ h .theta
+    ∷ bits (h .amp)
+    ∷ s .known
+    ∷ s .number
+    ∷ s .frame
+    ∷ bits (h .corr .re)
+    ∷ bits (h .corr .im)
+    ∷ h .«nco_phase»
+    ∷ [])
+    ++ replicate 12 0
+
+unfoldable pub periodTold : SyncStats → List ℕ
+periodTold p =
+    (0
+    ∷ 2
+    ∷ p .peak
+    ∷ p .«peak_pos»
+    ∷ p .sum
+    ∷ flagOf (p .locked)
+    ∷ p .offset
+    ∷ p .«ssync_parity»
+    ∷ p .«stray_markers»
+    ∷ p .«missed_markers»
+    ∷ [])
+    ++ replicate 14 0
+
+unfoldable pub eventTold : Event → List ℕ
+eventTold Nothing = fourTold 0 0 0 0
+eventTold (HeadOf h) = headTold h
+eventTold (Period p) = periodTold p
+eventTold (Lost at) = fourTold 0 3 at 0
+
+unfoldable pub kindOf : Event → ℕ
+kindOf Nothing = 0
+kindOf (HeadOf h) = 1
+kindOf (Period p) = 2
+kindOf (Lost at) = 3
+
+-- ---- a play: refusal, symbols taken, the kinds of its events, both runs
+unfoldable pub playedTold : Played → List ℕ
+playedTold a =
+    let t = a .runs .tail in
+    let b = a .runs .body in
+    (a .refusal
+    ∷ a .used
+    ∷ kindOf (a .events .first)
+    ∷ kindOf (a .events .second)
+    ∷ kindOf (a .events .third)
+    ∷ t .at
+    ∷ t .j
+    ∷ t .count
+    ∷ t .bits
+    ∷ b .at
+    ∷ b .j
+    ∷ b .count
+    ∷ b .bits
+    ∷ [])
+    ++ replicate 11 0
+
+-- ---- an end of sums
+unfoldable pub endedTold : Ended → List ℕ
+endedTold a =
+    let d = sumsShown (a .sums) in
+    (a .refusal ∷ flagOf (a .ended) ∷ d .frame ∷ d .count ∷ d .upper ∷ d .right ∷ []) ++ replicate 18 0
