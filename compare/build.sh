@@ -12,3 +12,4 @@ originals "$out/checked" -C overflow-checks=on -C debug-assertions=on
 with_port "$port"
 program "$out/checked" main.rs "$out/compare" "${port_flags[@]}"
 program "$out/checked" vectors.rs "$out/vectors"
+program "$out/checked" lines.rs "$out/lines"

@@ -11,6 +11,7 @@ demap_replay=${DEMAP_REPLAY:-$root/target/bin/demap_replay}
 eq_replay=${EQ_REPLAY:-$root/target/bin/eq_replay}
 frame_replay=${FRAME_REPLAY:-$root/target/bin/frame_replay}
 receiver_replay=${RECEIVER_REPLAY:-$root/target/bin/receiver_replay}
+bench_program=${BENCH:-$root/target/bin/bench}
 phy=crates/isdbs3-phy/src
 core=crates/isdbs3-core/src
 

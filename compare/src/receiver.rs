@@ -1,7 +1,8 @@
-//! The unchanged stages wired as document 01, "The receiver", says; a receiver made of the stages' models; calls of the replay program, what they
-//! owe, and the calls that are made, by kind.
+//! The unchanged stages wired as document 01, "The receiver", says; what the bench program prints of a capture by them; a receiver made of the
+//! stages' models; calls of the replay program, what they owe, and the calls that are made, by kind.
 
 pub mod calls;
+pub mod capture;
 pub mod desk;
 pub mod kinds;
 pub mod model;
