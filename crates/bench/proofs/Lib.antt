@@ -1,0 +1,3 @@
+-- Laws of lines and pages.
+pub mod Laws
+pub mod Pages

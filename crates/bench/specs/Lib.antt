@@ -1,0 +1,3 @@
+-- What the bench program prints, and how it goes by pages.
+pub mod Bench
+pub mod Pages
