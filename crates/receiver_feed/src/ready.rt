@@ -50,7 +50,7 @@ pub(crate) fn calm(r: Receiver, left: usize) -> usize
         if sync::ranged::past_end(y.base, y.t) {
             0
         } else {
-            smaller(sync_block::reach::reach(y) - 1, left)
+            smaller(sync_block::ranged::reach(y) - 1, left)
         }
     } else {
         0

@@ -1,7 +1,7 @@
 // A block of symbols through the slot sync in one call: the quiet symbols, which tell nothing, go by a short loop, and the call ends with the
 // first symbol that may tell something. The symbols are lent, I before Q.
 pub mod ranged;
-pub mod reach;
+mod reach;
 mod stretch;
 
 use sync::SlotSync;

@@ -1,9 +1,13 @@
 // For the receiver, which proves the ranges.
+use crate::reach as count;
 use sync_lock::Tally;
+use sync_step::Run;
 ghost use mathlib.Core.Path.{_≡_};
 ghost use Prim.Native.Nat.{_+_, _≤_, _<_, _^_};
 ghost use lib.ListN.{length};
 ghost use Rattle.sync_corr.specs.Rows.{Unit};
+ghost use Rattle.sync_step.specs.Ranges.{RunOk};
+ghost use Rattle.sync_block.specs.Block.{reachOf};
 ghost use Rattle.sync_block.specs.Quiet.{rolled, rollOne};
 
 // One quiet symbol: it completes the window at position p and tells nothing.
@@ -24,4 +28,12 @@ pub fn one(
     let a = sync_lock::ranged::leak(acc[p], sync_corr::ranged::size(b));
     acc[p] = a;
     sync_lock::ranged::counted(y, p, a)
+}
+
+// How many symbols a call can take, the last of which alone may tell something.
+pub fn reach(r: Run) -> usize
+    requires { ⌜ RunOk r ⌝ }
+    ensures { λ n. ⌜ (n ≡ reachOf r) × (1 ≤ n) ⌝ }
+{
+    count::reach(r)
 }

@@ -1,4 +1,4 @@
-// How many symbols a call can take. For the receiver too, which proves the ranges.
+// How many symbols a call can take.
 use sync_lock::Lock;
 use sync_step::Run;
 ghost use mathlib.Core.Path.{_≡_};
@@ -35,7 +35,7 @@ fn until(r: Run) -> usize
     }
 }
 
-pub fn reach(r: Run) -> usize
+pub(crate) fn reach(r: Run) -> usize
     requires { ⌜ RunOk r ⌝ }
     ensures { λ n. ⌜ (n ≡ reachOf r) × (1 ≤ n) ⌝ }
 {
