@@ -3,11 +3,11 @@
 
 use cases::receiver::calls::Call;
 use cases::receiver::desk::Desk;
-use cases::receiver::model::{Rules, RULES};
+use cases::receiver::model::{Rules, Spoils, RULES};
 use cases::stage::{serve, slipped};
 
 /// Each slip: its name (slip.sh reads it), and what it does to the rules.
-const SLIPS: [(&str, fn(&mut Rules)); 23] = [
+const SLIPS: [(&str, fn(&mut Rules)); 52] = [
     ("rotated_toward_zero", |r| r.phase.rounds_down = false),
     ("phase_advanced_first", |r| r.phase.turns_first = false),
     ("second_event_first", |r| r.in_order = false),
@@ -31,6 +31,39 @@ const SLIPS: [(&str, fn(&mut Rules)); 23] = [
     ("set_by_59_differences", |r| r.phase.differences = 59),
     ("n_word_not_negated", |r| r.frame.negated = false),
     ("soft_buffer_of_44879_taken", |r| r.soft = 44_879),
+    // ranges
+    ("carrier_of_60_differences_taken", |r| r.phase.most += 1),
+    ("window_of_4097_taken", |r| r.ends.window += 1),
+    ("peak_past_its_range_taken", |r| r.ends.peak += 1),
+    ("sum_past_its_range_taken", |r| r.ends.sum += 1),
+    ("correlation_of_98329_taken", |r| r.ends.part += 1),
+    ("head_of_98329_taken", |r| r.ends.head_part += 1),
+    ("head_size_of_179131_taken", |r| r.ends.amp += 1),
+    ("slot_of_no_symbol_taken", |r| r.ends.held -= 1),
+    ("last_position_past_its_range_taken", |r| r.ends.last += 1),
+    ("right_hand_entry_past_its_range_taken", |r| r.ends.right_hand += 1),
+    ("k_past_its_range_taken", |r| r.ends.k += 1),
+    ("window_of_4096_refused", |r| r.ends.window -= 1),
+    ("slot_of_one_symbol_refused", |r| r.ends.held += 1),
+    ("position_before_range", |r| r.range_first = false),
+    // what a refusal leaves
+    ("refused_symbol_leaves_the_sync", |r| r.whole_or_nothing = false),
+    ("refused_symbol_moves_the_window", |r| r.spoils = Spoils::Window),
+    ("refused_symbol_writes_an_accumulator", |r| r.spoils = Spoils::Accumulators),
+    ("refused_symbol_writes_the_slot_store", |r| r.spoils = Spoils::Store),
+    ("refused_symbol_writes_a_soft_bit", |r| r.spoils = Spoils::Soft),
+    // states that do not fit
+    ("slot_past_the_end_corrected", |r| (r.slot_ends, r.phase.end) = (false, u64::MAX)),
+    ("sums_tested_within_a_slot", |r| r.sums_unseen = false),
+    ("one_training_too_many", |r| r.frame.eq.limit += 1),
+    ("gap_keeps_the_waiting", |r| r.frame.gap_drops_waiting = false),
+    ("zero_without_output", |r| r.frame.newest_value = false),
+    ("later_record_counts_0", |r| r.sync.least_gap = 0),
+    ("marks_counted_past_2_32", |r| r.sync.counter_top = u32::MAX - 1),
+    // feeds
+    ("feed_takes_an_odd_byte", |r| r.feed.odd_byte_left = false),
+    ("feed_refuses_behind_symbols", |r| r.feed.refused_alone = false),
+    ("feed_tests_the_first_symbol_only", |r| r.feed.tests_each = false),
 ];
 
 fn main() -> std::io::Result<()> {

@@ -221,50 +221,20 @@ fn port(input: &Input, entry: &str) -> Vec<i8> {
     let flat: Vec<i16> = input.points.iter().flatten().copied().collect();
     let (b, t) = (&input.bytes, &input.table);
     let bits = input.bits as u8;
+    // both entries take the same, but for how many calls of `feed` are made
+    macro_rules! received {
+        ($entry:ident $(, $calls:expr)?) => {
+            $entry(
+                b.as_ptr(), b.len(), input.words, t.as_ptr(), t.len(), bits, flat.as_ptr(), flat.len(), K, $($calls,)?
+                acc.as_mut_ptr(), acc.len(), store.as_mut_ptr(), store.len(), soft.as_mut_ptr(), soft.len(),
+            )
+        };
+    }
     // SAFETY: slices by their pointers and lengths; the port writes the three stores only.
     let got = unsafe {
-        let (acc, accs) = (acc.as_mut_ptr(), acc.len());
-        let (store, stored) = (store.as_mut_ptr(), store.len());
-        let (soft, softs) = (soft.as_mut_ptr(), soft.len());
-        let (p, numbers) = (flat.as_ptr(), flat.len());
-        if entry == "feed" {
-            let n = calls(b.len() / 2 / SLOT);
-            sv_bench_receive(
-                b.as_ptr(),
-                b.len(),
-                input.words,
-                t.as_ptr(),
-                t.len(),
-                bits,
-                p,
-                numbers,
-                K,
-                n,
-                acc,
-                accs,
-                store,
-                stored,
-                soft,
-                softs,
-            )
-        } else {
-            sv_bench_symbols(
-                b.as_ptr(),
-                b.len(),
-                input.words,
-                t.as_ptr(),
-                t.len(),
-                bits,
-                p,
-                numbers,
-                K,
-                acc,
-                accs,
-                store,
-                stored,
-                soft,
-                softs,
-            )
+        match entry {
+            "feed" => received!(sv_bench_receive, calls(b.len() / 2 / SLOT)),
+            _ => received!(sv_bench_symbols),
         }
     };
     assert!(got.refusal == 0 && got.taken == b.len() / 2, "{got:?}");

@@ -8,7 +8,7 @@ use cases::receiver::kinds::KINDS;
 use cases::receiver::player::{Player, Totals};
 
 pub fn compare(size: Size, seed: u64) {
-    println!("comparing with the Rust's stages wired as a receiver, seed {seed}");
+    println!("comparing with the Rust's stages wired as a receiver and with its Chain, seed {seed}");
     let all: Totals = Stage {
         variable: "RECEIVER_REPLAY",
         program: "receiver_replay",

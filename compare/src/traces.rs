@@ -1,17 +1,19 @@
 //! traces: what the unchanged stages, wired as a receiver, make of the short run at this length of a slot, as text of antt on standard
 //! output. Its words stand in crates/receiver_runs/specs/Play.antt. Where the Rust's own `Chain` goes the same way, it goes along.
 
+#[path = "receiver/beside.rs"]
+mod beside;
 #[path = "receiver/short.rs"]
 mod short;
 
+use beside::Beside;
 use isdbs3_core::params::MOD_SLOT;
 use isdbs3_phy::chain::eq::Sums;
 use isdbs3_phy::chain::phase::Corrected;
 use isdbs3_phy::chain::sync::{Head, SyncStats, Word};
-use isdbs3_phy::chain::{Chain, ChainOptions, Output};
 use short::{Call, Plan};
 use std::fmt::Display;
-use wired::{Event, Receiver, Run, Told};
+use wired::{self, Event, Receiver, Run, Told};
 
 /// As in the replay programs.
 const FACTOR: u64 = 2_654_435_761;
@@ -210,42 +212,6 @@ fn call_lines(call: &Call) -> Vec<String> {
 }
 
 // ---- a run
-
-/// The Rust's own `Chain`: its first stages are wired the same way.
-struct Beside(Chain);
-
-impl Beside {
-    fn new(at: u64, step: i32) -> Self {
-        let mut beside =
-            Self(Chain::new(ChainOptions { carrier: step, eq_every: 0, trace: true, ..Default::default() }));
-        beside.restart(at);
-        beside
-    }
-
-    fn restart(&mut self, at: u64) {
-        self.0.loss(at - self.0.symbols(), &mut Vec::new());
-    }
-
-    /// Heads, corrected symbols, losses and the carrier's step; `Chain` alone fills a head's `nco_phase`.
-    fn agrees(&mut self, x: [i8; 2], told: &Told, step: i32) {
-        let mut out = Vec::new();
-        self.0.push(x, &mut out);
-        let (mut heads, mut symbols, mut losses) = (Vec::new(), Vec::new(), 0);
-        for o in out {
-            match o {
-                Output::Head(h) => heads.push(Head { nco_phase: 0, ..h }),
-                Output::Symbol(c) => symbols.push(c),
-                Output::Restart { .. } => losses += 1,
-                _ => {}
-            }
-        }
-        let told_heads = told.events.iter().filter_map(|e| if let Event::Head(h) = e { Some(*h) } else { None });
-        assert_eq!(heads, told_heads.collect::<Vec<_>>());
-        assert_eq!(symbols, told.corrected);
-        assert_eq!(losses, told.events.iter().filter(|e| matches!(e, Event::Lost(_))).count());
-        assert_eq!(self.0.carrier(), step);
-    }
-}
 
 struct Player {
     receiver: Receiver,

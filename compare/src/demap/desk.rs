@@ -2,7 +2,7 @@
 
 use super::calls::{force_told, label_told, single, soft_told, Call, Numbers, SLICE, SOFT};
 use super::model::{metric, Force, Learn, Rules, LABELS, NUMBERS};
-use crate::sync::calls::mixed;
+use crate::sync::calls::digest;
 
 pub struct Desk {
     pub rules: Rules,
@@ -15,10 +15,6 @@ pub struct Desk {
 /// As many entries as a call says, of those that there are.
 pub fn lent(n: u64) -> usize {
     n.min(SLICE as u64) as usize
-}
-
-pub fn digest(entries: &[i16]) -> u64 {
-    entries.iter().fold(0, |d, &v| mixed(d, i64::from(v) as u64))
 }
 
 fn put<T>(entries: &mut [T], most: usize, k: u64, v: T) {
@@ -55,11 +51,11 @@ impl Desk {
             }
             Call::SetLearned { k, v } => put(learned, SLICE, k, v),
             Call::SetNominal { k, v } => put(nominal, SLICE, k, v),
-            Call::LearnedDigest => return single(0, digest(learned), 0),
-            Call::NominalDigest => return single(0, digest(nominal), 0),
+            Call::LearnedDigest => return single(0, digest(learned.iter().copied()), 0),
+            Call::NominalDigest => return single(0, digest(nominal.iter().copied()), 0),
             Call::Part { bits, learned: a, nominal: b } => {
                 return match rules.part(force, bits, &learned[..lent(a)], &nominal[..lent(b)]) {
-                    Ok(part) => single(0, part.len() as u64, digest(part)),
+                    Ok(part) => single(0, part.len() as u64, digest(part.iter().copied())),
                     Err(n) => single(n, 0, 0),
                 }
             }

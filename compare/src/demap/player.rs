@@ -2,11 +2,12 @@
 //! agree with it. The model alone answers for refusals and for handed-in states.
 
 use super::calls::{soft_told, Block, Call, Numbers, SOFT};
-use super::desk::{digest, lent, Desk};
+use super::desk::{lent, Desk};
 use super::model::{labels, numbers, Force, LABELS, NUMBERS, RULES};
 use super::soft::pairs;
 use crate::inputs::Random;
 use crate::stage::{Owed, Sink};
+use crate::sync::calls::digest;
 use isdbs3_core::params::CodeRate;
 use isdbs3_core::slots::Slot;
 use isdbs3_phy::chain::demap::{self as rust, MODULATIONS};
@@ -281,7 +282,7 @@ impl<'a> Player<'a> {
             let (rate, symbols) = (self.rate, 0);
             let slot = Slot { index: 0, mode: 0, modulation, rate, dummy: false, symbol_start: 0, symbols };
             let points = flat(&force.points(&slot));
-            self.agree([told[1], told[2]], [points.len() as u64, digest(&points)]);
+            self.agree([told[1], told[2]], [points.len() as u64, digest(points.iter().copied())]);
         }
         told[0]
     }

@@ -2,6 +2,7 @@
 //! field takes the low bits of its number, as many as it has.
 
 use crate::inputs::Random;
+use crate::phase::calls::{disguised, Field};
 
 pub use crate::stage::Numbers;
 
@@ -48,14 +49,6 @@ pub enum Call {
     PutRight { values: [i64; 22] },
     Keep,
     Solve,
-}
-
-/// What a number of a call is read as.
-#[derive(Clone, Copy)]
-enum Field {
-    Bits(u32),
-    Flag,
-    Unread,
 }
 
 fn bits(v: i16) -> u64 {
@@ -170,22 +163,33 @@ impl Call {
         }
     }
 
-    /// The same call in other numbers: something above each field, another number for a flag that is on, and anything
-    /// where nothing is read.
+    /// As `disguised` says.
     pub fn in_disguise(&self, random: &mut Random) -> Numbers {
-        let mut numbers = self.numbers();
-        let fields = self.fields();
-        let mut read = fields.iter();
-        for number in &mut numbers[1..] {
-            let noise = random.next();
-            *number = match read.next() {
-                Some(Field::Bits(64)) => *number,
-                Some(Field::Bits(n)) => *number & ((1 << n) - 1) | noise << n,
-                Some(Field::Flag) if *number == 0 => 0,
-                Some(Field::Flag) => noise.max(1),
-                Some(Field::Unread) | None => noise,
-            };
+        disguised(self.numbers(), &self.fields(), random)
+    }
+
+    /// What puts the numbers in which another state differs.
+    pub fn puts(now: &Equaliser, other: &Equaliser) -> Vec<Self> {
+        let mut puts = Vec::new();
+        if other.line != now.line {
+            puts.push(Call::PutLine { line: other.line });
         }
-        numbers
+        if other.taps != now.taps {
+            puts.push(Call::PutTaps { taps: other.taps });
+        }
+        let numbers = |e: &Equaliser| (e.filled, e.from, e.opened, e.sums.frame, e.sums.count);
+        if numbers(other) != numbers(now) {
+            let (filled, from, opened, frame, count) = numbers(other);
+            puts.push(Call::PutNumbers { filled, from, opened, frame, count });
+        }
+        for (group, (new, old)) in (0..).zip(other.sums.r.chunks(22).zip(now.sums.r.chunks(22))) {
+            if new != old {
+                puts.push(Call::PutUpper { group, values: new.try_into().expect("22 numbers") });
+            }
+        }
+        if other.sums.p != now.sums.p {
+            puts.push(Call::PutRight { values: other.sums.p });
+        }
+        puts
     }
 }

@@ -2,7 +2,7 @@
 
 use super::calls::{Call, Equaliser, Numbers, Pairs, Sums};
 use super::model::{no_sums, Rules};
-use crate::sync::calls::mixed;
+use crate::sync::calls::digest;
 
 pub struct Desk {
     pub rules: Rules,
@@ -25,16 +25,12 @@ pub struct Answer {
     pub numbers: Numbers,
 }
 
-fn digest(entries: impl Iterator<Item = i64>) -> u64 {
-    entries.fold(0, |d, v| mixed(d, v as u64))
-}
-
 pub(crate) fn of_pairs(l: &Pairs) -> u64 {
-    digest(l.iter().map(|&v| v.into()))
+    digest(*l)
 }
 
 pub(crate) fn of_sums(s: &Sums) -> [u64; 4] {
-    [s.frame.into(), s.count.into(), digest(s.r.iter().copied()), digest(s.p.iter().copied())]
+    [s.frame.into(), s.count.into(), digest(s.r), digest(s.p)]
 }
 
 impl Desk {

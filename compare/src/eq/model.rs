@@ -105,6 +105,9 @@ pub fn no_sums(frame: u32) -> Sums {
     Sums { frame, count: 0, r: [0; 132], p: [0; 22] }
 }
 
+/// Which of the upper entries stand on the diagonal.
+pub const DIAGONAL: [usize; 11] = [0, 11, 21, 30, 38, 45, 51, 56, 60, 63, 65];
+
 /// Rows and columns of the upper entries, in their order.
 pub fn upper() -> impl Iterator<Item = (usize, usize)> {
     (0..121).map(|k| (k / 11, k % 11)).filter(|(r, c)| r <= c)
@@ -126,18 +129,13 @@ impl Rules {
             && (-TURN - self.spare..=TURN + self.spare).contains(&im)
     }
 
+    /// A diagonal entry is a sum of squares.
     pub fn sums_in_range(&self, s: &Sums) -> bool {
-        let entry = |((r, c), v): ((usize, usize), &[i64])| {
-            if r == c {
-                v[1].unsigned_abs() <= self.spare.unsigned_abs()
-                    && (-self.spare..=GREATEST + self.spare).contains(&v[0])
-            } else {
-                self.product_in_range(v[0], v[1])
-            }
-        };
+        let square =
+            |k: &usize| s.r[2 * k] >= -self.spare && s.r[2 * k + 1].unsigned_abs() <= self.spare.unsigned_abs();
         s.count <= self.limit
-            && upper().zip(s.r.chunks(2)).all(entry)
-            && s.p.chunks(2).all(|v| self.product_in_range(v[0], v[1]))
+            && s.r.chunks_exact(2).chain(s.p.chunks_exact(2)).all(|v| self.product_in_range(v[0], v[1]))
+            && DIAGONAL.iter().all(square)
     }
 
     pub fn in_range(&self, e: &Equaliser) -> bool {
@@ -178,13 +176,17 @@ impl Rules {
     }
 
     pub fn push(&self, e: &mut Equaliser, y: [i16; 2]) -> (u8, Option<[i16; 2]>) {
-        let refusal = self.refusal(e);
-        if refusal != 0 {
-            return (refusal, None);
+        match self.refusal(e) {
+            0 => (0, self.pushed(e, y)),
+            refusal => (refusal, None),
         }
+    }
+
+    /// One that is taken.
+    pub fn pushed(&self, e: &mut Equaliser, y: [i16; 2]) -> Option<[i16; 2]> {
         e.line = std::array::from_fn(|k| if k < 2 { y[k] } else { e.line[k - 2] });
         e.filled = (e.filled + 1).min(11);
-        (0, (e.filled >= self.outputs_from).then(|| self.filtered(e)))
+        (e.filled >= self.outputs_from).then(|| self.filtered(e))
     }
 
     pub fn output(&self, e: &Equaliser) -> (u8, Option<[i16; 2]>) {
@@ -201,13 +203,26 @@ impl Rules {
         refusal
     }
 
+    fn trains(&self, e: &Equaliser) -> bool {
+        e.opened && e.filled >= self.trains_from
+    }
+
     pub fn train(&self, e: &mut Equaliser, d: [i16; 2]) -> u8 {
         let refusal = self.refusal(e);
-        if refusal != 0 || !e.opened || e.filled < self.trains_from {
+        if refusal != 0 {
             return refusal;
         }
-        if e.sums.count >= self.limit {
+        if self.trains(e) && e.sums.count >= self.limit {
             return 8;
+        }
+        self.trained(e, d);
+        0
+    }
+
+    /// One that is taken.
+    pub fn trained(&self, e: &mut Equaliser, d: [i16; 2]) {
+        if !self.trains(e) {
+            return;
         }
         let turned = |a, b| if self.conj_of_row { product(conj(a), b) } else { product(a, conj(b)) };
         for ((r, c), at) in upper().zip(e.sums.r.chunks_mut(2)) {
@@ -221,7 +236,6 @@ impl Rules {
             add(at, product(conj(symbol(&e.line, r)), d));
         }
         e.sums.count += u32::from(self.counts);
-        0
     }
 
     /// The sums, if any were open.

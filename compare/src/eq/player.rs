@@ -301,25 +301,8 @@ impl<'a> Player<'a> {
 
     /// The numbers of a state that differ from the kept one's, by puts.
     pub fn hand_in(&mut self, e: &Equaliser) {
-        let now = self.desk.eq;
-        if e.line != now.line {
-            self.ask(Call::PutLine { line: e.line });
-        }
-        if e.taps != now.taps {
-            self.ask(Call::PutTaps { taps: e.taps });
-        }
-        let numbers = |e: &Equaliser| (e.filled, e.from, e.opened, e.sums.frame, e.sums.count);
-        if numbers(e) != numbers(&now) {
-            let (filled, from, opened, frame, count) = numbers(e);
-            self.ask(Call::PutNumbers { filled, from, opened, frame, count });
-        }
-        for (group, (new, old)) in (0..).zip(e.sums.r.chunks(22).zip(now.sums.r.chunks(22))) {
-            if new != old {
-                self.ask(Call::PutUpper { group, values: new.try_into().expect("22 numbers") });
-            }
-        }
-        if e.sums.p != now.sums.p {
-            self.ask(Call::PutRight { values: e.sums.p });
+        for put in Call::puts(&self.desk.eq, e) {
+            self.ask(put);
         }
         assert_eq!(self.desk.eq, *e);
     }

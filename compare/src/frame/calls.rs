@@ -2,10 +2,13 @@
 
 use crate::eq::calls::Call as EqCall;
 use crate::inputs::Random;
-use crate::phase::calls::{disguised, Corrected, Field, Fields, Numbers, Row};
+use crate::phase::calls::{disguised, Corrected, Field, Fields, Numbers, Row, WORD};
 
 /// 24 pairs.
 pub type Ones = [i8; 48];
+
+pub(crate) const PLACE: [Field; 6] =
+    [Field::Bits(64), WORD, Field::Flag, Field::Bits(8), Field::Bits(32), Field::Bits(16)];
 
 /// What is kept of a symbol while it waits: r, angle, gain and y are not.
 pub fn placed(c: &Corrected) -> Corrected {
@@ -38,13 +41,8 @@ impl Call {
         });
         match self {
             Call::Push(c) | Call::MoveUp(c) => row.corrected(c),
-            Call::Words(words) => {
-                let bytes = words.as_flattened().chunks(8);
-                bytes.for_each(|b| row.put(u64::from_le_bytes(std::array::from_fn(|k| b[k] as u8))));
-            }
-            Call::Line { count, last } => {
-                [(*count).into(), last.is_some().into(), last.unwrap_or(0)].iter().for_each(|&v| row.put(v));
-            }
+            Call::Words(words) => row.bytes(words.as_flattened().iter().map(|&one| one as u8)),
+            Call::Line { count, last } => row.all([(*count).into(), last.is_some().into(), last.unwrap_or(0)]),
             _ => {}
         }
         row.numbers
@@ -57,11 +55,8 @@ impl Call {
             16 => Call::New,
             17 => Call::Restart,
             18 => Call::Push(fields.corrected()),
-            19 => {
-                let byte = |k: usize| n[1 + k / 8].to_le_bytes()[k % 8] as i8;
-                Call::Words([0, 48].map(|from| std::array::from_fn(|k| byte(from + k))))
-            }
-            20 => Call::MoveUp(placed(&fields.corrected())),
+            19 => Call::Words([0; 2].map(|_| fields.bytes().map(|one: u8| one as i8))),
+            20 => Call::MoveUp(fields.place()),
             21 => {
                 let (count, known, at) = (fields.get() as u32, fields.flag(), fields.get());
                 Call::Line { count, last: known.then_some(at) }
@@ -72,7 +67,6 @@ impl Call {
 
     pub fn in_disguise(&self, random: &mut Random) -> Numbers {
         const WIDE: Field = Field::Bits(64);
-        const PLACE: [Field; 6] = [WIDE, Field::Word, Field::Flag, Field::Bits(8), Field::Bits(32), Field::Bits(16)];
         const PART: Field = Field::Bits(16);
         let fields = match self {
             Call::Eq(call) => return call.in_disguise(random),

@@ -60,10 +60,7 @@ impl Desk {
         let mut row = Row::new(refusal.into());
         row.put(out.is_some().into());
         row.pair(z);
-        row.put(place.at);
-        row.put(place.word as u64);
-        row.slot(place.slot);
-        row.put(place.j.into());
+        row.place(&place);
         let waiting = [line.count.into(), line.last.is_some().into(), line.last.unwrap_or(0)];
         let filter = [of_pairs(&e.line), e.filled.into(), of_pairs(&e.taps)];
         let flags = [e.from.is_some().into(), e.from.unwrap_or(0).into(), e.opened.into()];

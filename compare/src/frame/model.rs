@@ -135,7 +135,7 @@ impl Rules {
     }
 
     /// A training that the symbol would make, with a full count.
-    fn full(&self, e: &Equaliser, line: &Line, c: &Corrected) -> bool {
+    pub fn full(&self, e: &Equaliser, line: &Line, c: &Corrected) -> bool {
         let gap = self.gap(line, c.at) && self.full_after_gap;
         let comes_out = line.count as usize == self.late && !gap;
         let trains = line.places[0].j < self.sync || !self.full_for_sync;
@@ -173,31 +173,42 @@ impl Rules {
 
     /// "A corrected slot is aligned, five symbols late."
     pub fn push(&self, e: &mut Equaliser, line: &mut Line, c: &Corrected, words: &[Ones; 2]) -> (u8, Option<Aligned>) {
-        let refusal = self.refusal(e, line, c, words);
-        if refusal != 0 {
-            return (refusal, None);
+        match self.refusal(e, line, c, words) {
+            0 => (0, self.taken(e, line, c, words)),
+            refusal => (refusal, None),
         }
+    }
+
+    /// One that is taken.
+    pub fn taken(&self, e: &mut Equaliser, line: &mut Line, c: &Corrected, words: &[Ones; 2]) -> Option<Aligned> {
         if self.gap(line, c.at) {
             self.gone(e, line);
         }
-        let before = *e;
-        let z = self.eq.push(e, c.y).1.unwrap_or(if self.newest_value { c.y } else { [0; 2] });
-        let z = if self.own_value { z } else { self.eq.output(&before).1.unwrap_or(z) };
+        let before = (!self.own_value || !self.trains_behind).then(|| *e);
+        let z = self.eq.pushed(e, c.y).unwrap_or(if self.newest_value { c.y } else { [0; 2] });
+        let z = if self.own_value { z } else { before.and_then(|e| self.eq.output(&e).1).unwrap_or(z) };
         line.last = Some(c.at);
         if (line.count as usize) < self.late {
             line.places[line.count as usize] = placed(c);
             line.count += 1;
-            return (0, None);
+            return None;
         }
         let oldest = line.places.remove(0);
         line.places.push(placed(c));
-        self.train(e, &before, &oldest, c, words);
+        self.train(e, before.filter(|_| !self.trains_behind), &oldest, c, words);
         let place = if self.own_place { oldest } else { placed(c) };
-        (0, Some(Aligned { place, z }))
+        Some(Aligned { place, z })
     }
 
     /// "With sums open, sync symbols train."
-    fn train(&self, e: &mut Equaliser, before: &Equaliser, oldest: &Corrected, c: &Corrected, words: &[Ones; 2]) {
+    fn train(
+        &self,
+        e: &mut Equaliser,
+        before: Option<Equaliser>,
+        oldest: &Corrected,
+        c: &Corrected,
+        words: &[Ones; 2],
+    ) {
         if oldest.j >= self.sync {
             return;
         }
@@ -209,10 +220,8 @@ impl Rules {
         let words = if self.words_swapped { [*s, *f] } else { *words };
         let d = reference(word, usize::from(oldest.j) % 24, &words);
         let line = e.line;
-        if !self.trains_behind {
-            e.line = before.line;
-        }
-        self.eq.train(e, d);
+        e.line = before.map_or(line, |e| e.line);
+        self.eq.trained(e, d);
         e.line = line;
     }
 }

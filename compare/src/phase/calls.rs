@@ -125,14 +125,14 @@ impl Answer {
             Answer::Single(_, v) => row.put(v),
             Answer::Nco(_, nco, more) => {
                 row.nco(&nco);
-                more.iter().for_each(|&v| row.put(v as u64));
+                row.all(more.map(|v| v as u64));
             }
             Answer::Phase(_, phase) => row.phase(&phase),
             Answer::Due(_, due) => {
                 row.put(due.is_some().into());
                 if let Some(slot) = due {
                     row.head(&slot.head);
-                    [slot.delta, slot.gain, slot.gamma].iter().for_each(|&v| row.put(v as u64));
+                    row.all([slot.delta, slot.gain, slot.gamma].map(|v| v as u64));
                 }
             }
             Answer::Next(_, next) => {
@@ -163,8 +163,28 @@ impl Row {
         self.used += 1;
     }
 
+    pub(crate) fn all(&mut self, numbers: impl IntoIterator<Item = u64>) {
+        numbers.into_iter().for_each(|v| self.put(v));
+    }
+
     pub(crate) fn pair(&mut self, pair: [i16; 2]) {
-        pair.iter().for_each(|&v| self.put(i64::from(v) as u64));
+        self.all(pair.map(|v| i64::from(v) as u64));
+    }
+
+    /// Parts of a correlation.
+    pub(crate) fn corr(&mut self, corr: [i32; 2]) {
+        self.all(corr.map(|v| i64::from(v) as u64));
+    }
+
+    /// Eight bytes a number, the first lowest.
+    pub(crate) fn bytes(&mut self, bytes: impl IntoIterator<Item = u8>) {
+        let bytes: Vec<u8> = bytes.into_iter().collect();
+        self.all(bytes.chunks(8).map(|b| (0..).zip(b).map(|(k, &v)| u64::from(v) << (8 * k)).sum()));
+    }
+
+    /// Four numbers of 16 bits in each.
+    pub(crate) fn sixteens(&mut self, numbers: &[i16]) {
+        self.bytes(numbers.iter().flat_map(|v| v.to_le_bytes()));
     }
 
     pub(crate) fn nco(&mut self, nco: &Nco) {
@@ -172,12 +192,12 @@ impl Row {
         self.put(i64::from(nco.freq) as u64);
         self.put(nco.trail.is_some().into());
         let Steps { last, sum, steps } = nco.trail.unwrap_or(Steps { last: 0, sum: 0, steps: 0 });
-        [last.into(), sum as u64, steps.into()].iter().for_each(|&v| self.put(v));
+        self.all([last.into(), sum as u64, steps.into()]);
     }
 
     pub(crate) fn slot(&mut self, slot: Option<(u8, u32)>) {
         let (number, frame) = slot.unwrap_or((0, 0));
-        [slot.is_some().into(), number.into(), frame.into()].iter().for_each(|&v| self.put(v));
+        self.all([slot.is_some().into(), number.into(), frame.into()]);
     }
 
     pub(crate) fn head(&mut self, head: &Head) {
@@ -186,15 +206,20 @@ impl Row {
         self.put(head.theta.into());
         self.put(head.amp as u64);
         self.slot(head.slot);
-        head.corr.iter().for_each(|&v| self.put(i64::from(v) as u64));
+        self.corr(head.corr);
         self.put(head.nco_phase.into());
     }
 
-    pub(crate) fn corrected(&mut self, c: &Corrected) {
+    /// What is kept of a corrected symbol while it waits.
+    pub(crate) fn place(&mut self, c: &Corrected) {
         self.put(c.at);
         self.put(c.word as u64);
         self.slot(c.slot);
         self.put(c.j.into());
+    }
+
+    pub(crate) fn corrected(&mut self, c: &Corrected) {
+        self.place(c);
         self.pair(c.r);
         self.put(c.phi.into());
         self.put(c.gain as u64);
@@ -232,6 +257,21 @@ impl<'a> Fields<'a> {
         self.get() != 0
     }
 
+    /// As many bytes, eight to a number.
+    pub(crate) fn bytes<const N: usize>(&mut self) -> [u8; N] {
+        let numbers: Vec<u64> = (0..N.div_ceil(8)).map(|_| self.get()).collect();
+        std::array::from_fn(|k| numbers[k / 8].to_le_bytes()[k % 8])
+    }
+
+    pub(crate) fn sixteens<const N: usize>(&mut self) -> [i16; N] {
+        let numbers: Vec<u64> = (0..N.div_ceil(4)).map(|_| self.get()).collect();
+        std::array::from_fn(|k| (numbers[k / 4] >> (16 * (k % 4))) as i16)
+    }
+
+    pub(crate) fn corr(&mut self) -> [i32; 2] {
+        [self.get() as i32, self.get() as i32]
+    }
+
     pub(crate) fn nco(&mut self) -> Nco {
         let (phase, freq, known) = (self.get() as u32, self.get() as i32, self.flag());
         let steps = Steps { last: self.get() as u32, sum: self.get() as i64, steps: self.get() as u32 };
@@ -252,18 +292,23 @@ impl<'a> Fields<'a> {
         [self.get() as i16, self.get() as i16]
     }
 
-    pub(crate) fn corrected(&mut self) -> Corrected {
+    /// What is kept of a corrected symbol while it waits.
+    pub(crate) fn place(&mut self) -> Corrected {
         let (at, word, slot, j) = (self.get(), self.word(), self.slot(), self.get() as u16);
+        Corrected { at, word, slot, j, r: [0; 2], phi: 0, gain: 0, y: [0; 2] }
+    }
+
+    pub(crate) fn corrected(&mut self) -> Corrected {
+        let place = self.place();
         let (r, phi, gain) = (self.pair(), self.get() as u32, self.get() as i64);
-        Corrected { at, word, slot, j, r, phi, gain, y: self.pair() }
+        Corrected { r, phi, gain, y: self.pair(), ..place }
     }
 
     fn head(&mut self) -> Head {
         let at = self.get();
         let word = self.word();
         let (theta, amp) = (self.get() as u32, self.get() as i64);
-        let slot = self.slot();
-        let corr = [self.get() as i32, self.get() as i32];
+        let (slot, corr) = (self.slot(), self.corr());
         Head { at, word, theta, amp, slot, corr, nco_phase: self.get() as u32 }
     }
 
@@ -279,7 +324,9 @@ impl<'a> Fields<'a> {
 pub(crate) enum Field {
     Bits(u32),
     Flag,
-    Word,
+    /// A number below this one, or any other.
+    Choice(u64),
+    Unread,
 }
 
 /// The same call in other numbers: something above each field, another number for a flag that is on, and anything where
@@ -293,17 +340,19 @@ pub(crate) fn disguised(mut numbers: Numbers, fields: &[Field], random: &mut Ran
             Some(Field::Bits(n)) => *number & ((1 << n) - 1) | noise << n,
             Some(Field::Flag) if *number == 0 => 0,
             Some(Field::Flag) => noise.max(1),
-            Some(Field::Word) if *number < 2 => *number,
-            Some(Field::Word) => noise.max(2),
-            None => noise,
+            Some(Field::Choice(n)) if *number < *n => *number,
+            Some(Field::Choice(n)) => noise.max(*n),
+            Some(Field::Unread) | None => noise,
         };
     }
     numbers
 }
 
-const HEAD: [Field; 10] = [
+/// Ssync, Fsync, otherwise NotFsync.
+pub(crate) const WORD: Field = Field::Choice(2);
+pub(crate) const HEAD: [Field; 10] = [
     Field::Bits(64),
-    Field::Word,
+    WORD,
     Field::Bits(32),
     Field::Bits(64),
     Field::Flag,
@@ -313,8 +362,13 @@ const HEAD: [Field; 10] = [
     Field::Bits(32),
     Field::Bits(32),
 ];
-const NCO: [Field; 6] =
+pub(crate) const NCO: [Field; 6] =
     [Field::Bits(32), Field::Bits(32), Field::Flag, Field::Bits(32), Field::Bits(64), Field::Bits(32)];
+
+/// Of a slot phase.
+pub(crate) fn phase_fields() -> Vec<Field> {
+    [&[Field::Flag][..], &HEAD, &[Field::Bits(32)]].concat()
+}
 
 impl Call {
     fn op(&self) -> u64 {
@@ -345,7 +399,7 @@ impl Call {
             Call::NcoNew { freq } => row.put(i64::from(freq) as u64),
             Call::Rotate { nco, x, table } => {
                 row.nco(&nco);
-                x.iter().for_each(|&v| row.put(i64::from(v) as u64));
+                row.all(x.map(|v| i64::from(v) as u64));
                 row.put(table);
             }
             Call::Hear { nco, head } => {
@@ -362,10 +416,9 @@ impl Call {
             }
             Call::Correct { slot, j, table, store } => {
                 row.head(&slot.head);
-                let steps = [slot.delta, slot.gain, slot.gamma].map(|v| v as u64);
-                let [delta, gain, gamma] = steps;
-                let rest = [slot.next.at, slot.next.amp as u64, delta, gain, gamma, j, table, store];
-                rest.iter().for_each(|&v| row.put(v));
+                row.all([slot.next.at, slot.next.amp as u64]);
+                row.all([slot.delta, slot.gain, slot.gamma].map(|v| v as u64));
+                row.all([j, table, store]);
             }
             Call::Push { phase, r, store } => {
                 row.phase(&phase);
@@ -373,10 +426,7 @@ impl Call {
                 row.pair(r);
                 row.put(store);
             }
-            Call::SetTable { k, v } | Call::SetStore { k, v } => {
-                row.put(k);
-                row.put(i64::from(v) as u64);
-            }
+            Call::SetTable { k, v } | Call::SetStore { k, v } => row.all([k, i64::from(v) as u64]),
         }
         row.numbers
     }
@@ -414,7 +464,7 @@ impl Call {
     /// What each number is read as, from number 1 on; those behind are not read.
     fn fields(&self) -> Vec<Field> {
         const WIDE: Field = Field::Bits(64);
-        let phase = [&[Field::Flag][..], &HEAD, &[Field::Bits(32)]].concat();
+        let phase = phase_fields();
         match self {
             Call::TableDigest | Call::StoreDigest | Call::New => vec![],
             Call::NcoNew { .. } => vec![Field::Bits(32)],

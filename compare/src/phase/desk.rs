@@ -2,7 +2,7 @@
 
 use super::calls::{Answer, Call, STORE, TABLE};
 use super::model::Rules;
-use crate::sync::calls::mixed;
+use crate::sync::calls::digest;
 
 pub struct Desk {
     pub rules: Rules,
@@ -13,10 +13,6 @@ pub struct Desk {
 /// As many entries as a call says, of those that there are.
 fn lent(n: u64, all: usize) -> usize {
     n.min(all as u64) as usize
-}
-
-fn digest(entries: &[i16]) -> u64 {
-    entries.iter().fold(0, |d, &v| mixed(d, i64::from(v) as u64))
 }
 
 fn set(entries: &mut [i16], k: u64, v: i16) -> Answer {
@@ -36,8 +32,8 @@ impl Desk {
         let Some(call) = call else { return Answer::Single(255, 0) };
         let rules = self.rules;
         match call {
-            Call::TableDigest => Answer::Single(0, digest(&self.table)),
-            Call::StoreDigest => Answer::Single(0, digest(&self.store)),
+            Call::TableDigest => Answer::Single(0, digest(self.table.iter().copied())),
+            Call::StoreDigest => Answer::Single(0, digest(self.store.iter().copied())),
             Call::NcoNew { freq } => Answer::Nco(0, Rules::nco_new(freq), [0; 2]),
             Call::Rotate { nco, x, table } => {
                 let (refusal, nco, symbol) = rules.rotate(&nco, x, &self.table[..lent(table, TABLE)]);

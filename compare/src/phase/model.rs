@@ -50,7 +50,8 @@ pub struct Rules {
     pub store_first: bool,
     /// A push that would be ignored is not refused for its position.
     pub ignored_stands_nowhere: bool,
-    /// How far a carrier's sum may be beyond its range.
+    /// The greatest number of differences that a carrier holds, and how far its sum may be beyond its range.
+    pub most: u32,
     pub sum_spare: i64,
     /// The first position that no symbol has.
     pub end: u64,
@@ -77,6 +78,7 @@ pub const RULES: Rules = Rules {
     tests_first: true,
     store_first: true,
     ignored_stands_nowhere: true,
+    most: 59,
     sum_spare: 0,
     end: END,
 };
@@ -121,7 +123,7 @@ impl Rules {
 
     pub fn nco_in_range(&self, nco: &Nco) -> bool {
         let sums = -126_701_535_232 - self.sum_spare..=126_701_535_173 + self.sum_spare;
-        nco.trail.is_none_or(|t| t.steps <= 59 && sums.contains(&t.sum))
+        nco.trail.is_none_or(|t| t.steps <= self.most && sums.contains(&t.sum))
     }
 
     pub fn nco_new(freq: i32) -> Nco {

@@ -1,13 +1,13 @@
 //! What the replay program owes for each call, by the model: it keeps a receiver, words, events, sums, the table and the stores, as the program does.
 
-use super::calls::{Call, Lent as Entries, ACC, PLAY, SOFT, STORE, TABLE};
-use super::model::{Answer, Lent, Receiver, Rules};
+use super::calls::{Call, Lent as Entries, Symbols, ACC, PLAY, SOFT, STORE, TABLE};
+use super::model::{Answer, Feeding, Lent, Receiver, Rules};
 use crate::eq::calls::Sums;
 use crate::eq::desk::{of_sums, Desk as EqDesk};
 use crate::eq::model::no_sums;
 use crate::frame::calls::Ones;
 use crate::phase::calls::{Numbers, Row};
-use crate::sync::calls::{mixed, Event, Kind};
+use crate::sync::calls::{digest, Event};
 
 /// What the soft buffer holds at first.
 pub const FILL: i8 = 85;
@@ -33,8 +33,10 @@ fn part<T>(all: &mut [T], n: u64) -> &mut [T] {
     &mut all[..n]
 }
 
-fn digest(entries: impl Iterator<Item = i64>) -> u64 {
-    entries.fold(0, |d, v| mixed(d, v as u64))
+fn set<T>(all: &mut [T], k: u64, v: T) {
+    if let Some(entry) = usize::try_from(k).ok().and_then(|k| all.get_mut(k)) {
+        *entry = v;
+    }
 }
 
 /// An event with all its fields.
@@ -43,22 +45,16 @@ fn event(e: &Event) -> Numbers {
     match *e {
         Event::Nothing => row.put(0),
         Event::Head { at, word, corr, theta, amp, slot, nco_phase } => {
-            let word = match word {
-                Kind::Ssync => 0,
-                Kind::Fsync => 1,
-                Kind::NotFsync => 2,
-            };
-            [1, at, word, theta.into(), amp as u64].iter().for_each(|&v| row.put(v));
+            row.all([1, at, word as u64, theta.into(), amp as u64]);
             row.slot(slot);
-            corr.iter().for_each(|&v| row.put(i64::from(v) as u64));
+            row.corr(corr);
             row.put(nco_phase.into());
         }
         Event::Period { peak, place, sum, locked, offset, parity, stray, missed } => {
-            let first = [2, peak.into(), place.into(), sum, locked.into()];
-            let rest = [offset.into(), parity.into(), stray.into(), missed.into()];
-            first.iter().chain(&rest).for_each(|&v| row.put(v));
+            row.all([2, peak.into(), place.into(), sum, locked.into()]);
+            row.all([offset.into(), parity.into(), stray.into(), missed.into()]);
         }
-        Event::Lost { at } => [3, at].iter().for_each(|&v| row.put(v)),
+        Event::Lost { at } => row.all([3, at]),
     }
     row.numbers
 }
@@ -76,10 +72,8 @@ fn kind(e: &Event) -> u64 {
 pub fn played(a: &Answer, used: u64) -> Numbers {
     let mut row = Row::new(a.refusal.into());
     row.put(used);
-    a.events.iter().for_each(|e| row.put(kind(e)));
-    for r in &a.runs {
-        [r.at, r.j.into(), r.count as u64, r.bits.into()].iter().for_each(|&v| row.put(v));
-    }
+    row.all(a.events.iter().map(kind));
+    a.runs.iter().for_each(|r| row.all([r.at, r.j.into(), r.count as u64, r.bits.into()]));
     row.numbers
 }
 
@@ -109,27 +103,33 @@ impl Desk {
         self.receiver.symbol(x, &mut lent)
     }
 
-    fn play(&mut self, n: u64, lent: Entries, symbols: &[[i8; 2]; PLAY]) -> Numbers {
+    /// Symbols one by one; the state's numbers are tested for each of them, or for the first alone.
+    fn play(&mut self, n: u64, lent: Entries, symbols: &Symbols, each: bool) -> Numbers {
         let n = n.min(PLAY as u64);
         let mut used = 0;
         let mut last = Answer::refused(0);
         while used < n && last.quiet() {
+            self.receiver.rules.tested = each || used == 0;
             last = self.symbol(symbols[used as usize], lent);
             used += u64::from(last.refusal == 0);
         }
+        self.receiver.rules.tested = true;
         self.events = last.events;
         played(&last, used)
     }
 
-    /// As a play, but a refusal comes only with no symbol taken.
-    fn feed(&mut self, n: u64, lent: Entries, symbols: &[[i8; 2]; PLAY]) -> Numbers {
+    /// As a play, but a refusal comes only with no symbol taken. An odd last byte is no symbol.
+    fn feed(&mut self, bytes: u64, lent: Entries, symbols: &Symbols) -> Numbers {
+        let Feeding { odd_byte_left, refused_alone, tests_each } = self.receiver.rules.feed;
+        let bytes = bytes.min(2 * PLAY as u64);
+        let n = if odd_byte_left { bytes / 2 } else { bytes.div_ceil(2) };
         if n == 0 {
             let refusal = self.standing(lent);
             self.events = [Event::Nothing; 3];
             return played(&Answer::refused(refusal), 0);
         }
-        let mut told = self.play(n, lent, symbols);
-        if told[1] > 0 {
+        let mut told = self.play(n, lent, symbols, tests_each);
+        if told[1] > 0 && refused_alone {
             told[0] = 0;
         }
         told
@@ -155,6 +155,15 @@ impl Desk {
         answer.numbers
     }
 
+    fn end(&mut self) -> Numbers {
+        let (refusal, ended) = self.receiver.end();
+        self.sums = ended.unwrap_or(no_sums(0));
+        let mut row = Row::new(refusal.into());
+        row.put(ended.is_some().into());
+        row.all(of_sums(&self.sums));
+        row.numbers
+    }
+
     /// None is a call that there is not.
     pub fn answer(&mut self, call: Option<&Call>) -> Numbers {
         let Some(call) = call else { return plain(255) };
@@ -170,32 +179,40 @@ impl Desk {
             }
             Call::Taps { frame, taps } => plain(self.receiver.load_taps(taps, frame)),
             Call::Open(frame) => plain(self.receiver.open(frame)),
-            Call::End => {
-                let (refusal, ended) = self.receiver.end();
-                self.sums = ended.unwrap_or(no_sums(0));
-                let mut row = Row::new(refusal.into());
-                row.put(ended.is_some().into());
-                of_sums(&self.sums).iter().for_each(|&v| row.put(v));
-                row.numbers
-            }
+            Call::End => self.end(),
             Call::Event(n) => event(&self.events[n.min(2) as usize]),
+            Call::Tell(part) => part.told(&self.receiver),
+            Call::Put(part, numbers) => {
+                part.replace(&numbers, &mut self.receiver);
+                part.told(&self.receiver)
+            }
+            _ => self.with_stores(call),
+        }
+    }
+
+    /// A call that takes stores.
+    fn with_stores(&mut self, call: &Call) -> Numbers {
+        match *call {
             Call::New { at, step, acc } => plain(self.receiver.start(at, step, part(&mut self.acc, acc))),
             Call::Restart { at, acc } => plain(self.receiver.restart(at, part(&mut self.acc, acc))),
             Call::Look => {
                 let mut row = Row::new(0);
-                row.put(digest(self.acc.iter().map(|&v| v.into())));
-                row.put(digest(self.store.iter().map(|&v| v.into())));
-                row.put(digest(self.soft.iter().map(|&v| v.into())));
+                row.put(digest(self.acc.iter().copied()));
+                row.put(digest(self.store.iter().copied()));
+                row.put(digest(self.soft.iter().copied()));
                 row.numbers
             }
             Call::SetTable { k, v } => {
-                if let Some(entry) = usize::try_from(k).ok().and_then(|k| self.table.get_mut(k)) {
-                    *entry = v;
-                }
+                set(&mut self.table, k, v);
                 plain(0)
             }
-            Call::Play { n, lent, symbols } => self.play(n, lent, &symbols),
+            Call::SetAcc { k, v } => {
+                set(&mut self.acc, k, v);
+                plain(0)
+            }
+            Call::Play { n, lent, symbols } => self.play(n, lent, &symbols, true),
             Call::Feed { n, lent, symbols } => self.feed(n, lent, &symbols),
+            _ => unreachable!("answered above"),
         }
     }
 }

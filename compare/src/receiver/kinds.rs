@@ -1,39 +1,42 @@
 //! The calls, by kind.
 
-use super::calls::{Call, PLAY, POINTS, RIGHT};
+use super::calls::{Call, POINTS, RIGHT};
+use super::damage::{damage, one_of_each_part};
+use super::misfits::misfits;
 use super::player::Player;
+use super::ranges::END;
 use super::signal::{points, Signal, SLOT};
 use crate::demap::soft::any_points;
-use crate::eq::calls::{Call as EqCall, Equaliser};
+use crate::eq::calls::Call as EqCall;
 use crate::frame::calls::Ones;
 use crate::inputs::{cosine_table, pick, Random, Size};
 use crate::sync::calls::Event;
 use crate::sync::streams::standard;
-
-const END: u64 = 1 << 62;
 
 pub struct Kind {
     pub name: &'static str,
     pub play: fn(&mut Player, &mut Random, Size),
 }
 
-pub const KINDS: [Kind; 12] = [
+/// What tests most in the shortest time comes first.
+pub const KINDS: [Kind; 13] = [
     Kind { name: "bench values", play: bench_values },
+    Kind { name: "refusals", play: refusals },
+    Kind { name: "damage", play: damage },
+    Kind { name: "states that do not fit", play: misfits },
+    Kind { name: "positions", play: positions },
+    Kind { name: "full sums", play: full_sums },
     Kind { name: "noise", play: noise },
     Kind { name: "locked, all bits", play: locked },
     Kind { name: "offsets 0 and 9,295", play: offsets },
     Kind { name: "fades and cuts", play: fades },
     Kind { name: "calls on the way", play: on_the_way },
     Kind { name: "extreme symbols", play: extremes },
-    Kind { name: "positions", play: positions },
-    Kind { name: "refusals", play: refusals },
-    Kind { name: "full sums", play: full_sums },
-    Kind { name: "damage", play: damage },
     Kind { name: "markers and their loss", play: markers },
 ];
 
 /// As many as the run's size asks for.
-fn times(size: Size, [sample, short, full]: [u64; 3]) -> u64 {
+pub(super) fn times(size: Size, [sample, short, full]: [u64; 3]) -> u64 {
     match size {
         Size::Sample => sample,
         Size::Short => short,
@@ -41,16 +44,19 @@ fn times(size: Size, [sample, short, full]: [u64; 3]) -> u64 {
     }
 }
 
-fn random_word(r: &mut Random) -> Ones {
+pub(super) fn random_word(r: &mut Random) -> Ones {
     std::array::from_fn(|_| if r.below(2) == 0 { 1 } else { -1 })
 }
 
-fn load(p: &mut Player, bits: usize, k: i64) {
+pub(super) fn load(p: &mut Player, bits: usize, k: i64) {
     p.refused(Call::Points { bits: bits as u8, k, count: 2 << bits, points: points(bits) }, 0);
 }
 
-/// Document 01, "Capture" and "Bench values".
-fn bench_values(p: &mut Player, r: &mut Random, size: Size) {
+const ZEROS: Event =
+    Event::Period { peak: 0, place: 0, sum: 0, locked: false, offset: 0, parity: 0, stray: 0, missed: 0 };
+
+/// Document 01, "Capture" and "Bench values"; the marker loss at 9,295 is in a kind of its own.
+fn bench_values(p: &mut Player, _: &mut Random, size: Size) {
     let mut bpsk = [0; POINTS];
     bpsk[..4].copy_from_slice(&[724, 724, -724, -724]);
     // in a sample the table stays zero: 1,024 calls less
@@ -62,25 +68,20 @@ fn bench_values(p: &mut Player, r: &mut Random, size: Size) {
         let answer = p.push([0; 2]);
         told.extend(answer.events.into_iter().filter(|&e| e != Event::Nothing).map(|e| (k, e)));
     }
-    let zeros = Event::Period { peak: 0, place: 0, sum: 0, locked: false, offset: 0, parity: 0, stray: 0, missed: 0 };
-    assert_eq!(told, [(9_318, zeros)], "zero symbols");
-    if size != Size::Sample {
-        marker_loss(p, r, 9_295);
-    }
+    assert_eq!(told, [(9_318, ZEROS)], "zero symbols");
 }
 
-/// Heads at this offset; two frames without marks.
-fn marker_loss(p: &mut Player, r: &mut Random, offset: u32) {
+/// Heads at this offset, from this slot of a frame on; two frames without marks.
+fn marker_loss(p: &mut Player, r: &mut Random, offset: u32, slot: u32) {
     let mut signal = Signal::new(standard(), 60.0, 2);
-    signal.turn = 2e-6;
+    (signal.turn, signal.slot) = (2e-6, slot);
     p.start(&signal.words, &cosine_table(), 1_000_000, 0);
     load(p, 2, 100_000);
     for _ in 0..offset {
         p.push([0; 2]);
     }
-    // so that the loss comes shortly before a setting of the carrier's step
-    signal.slot = 3;
-    for _ in 0..122 * SLOT {
+    // up to the first mark
+    for _ in 0..(122 - slot) * SLOT {
         p.push(signal.next(r));
     }
     signal.marks = false;
@@ -95,9 +96,7 @@ fn marker_loss(p: &mut Player, r: &mut Random, offset: u32) {
     let lost = lost.expect("a loss by markers");
     if offset == 9_295 {
         let at = p.desk.receiver.next() as u64;
-        let zeros =
-            Event::Period { peak: 0, place: 0, sum: 0, locked: false, offset: 0, parity: 0, stray: 0, missed: 0 };
-        assert_eq!(lost.events, [Event::Lost { at }, zeros, Event::Nothing], "offset 9,295 and a marker loss");
+        assert_eq!(lost.events, [Event::Lost { at }, ZEROS, Event::Nothing], "offset 9,295 and a marker loss");
     }
     p.look();
     // a lock again, and a mark, whose frame the record numbers
@@ -119,7 +118,7 @@ fn noise(p: &mut Player, r: &mut Random, size: Size) {
 }
 
 /// A signal of any strength, noise and carrier.
-fn any_signal(words: [Ones; 2], bits: usize, r: &mut Random) -> Signal {
+pub(super) fn any_signal(words: [Ones; 2], bits: usize, r: &mut Random) -> Signal {
     let amplitude = pick(r, &[4.0, 15.0, 40.0, 70.0, 100.0]);
     let mut signal = Signal::new(words, amplitude, bits);
     signal.noise = pick(r, &[0, 0, 1, (amplitude / 6.0) as u64, (amplitude / 3.0) as u64]);
@@ -179,7 +178,39 @@ fn offsets(p: &mut Player, r: &mut Random, size: Size) {
     }
 }
 
-/// The signal goes away and comes back, loses symbols, has some twice.
+/// The signal goes away and comes back, loses symbols, has some twice, or another carrier.
+fn mishap(p: &mut Player, signal: &mut Signal, r: &mut Random) {
+    match r.below(4) {
+        0 => {
+            let strength = signal.amplitude;
+            signal.amplitude = pick(r, &[0.0, 3.0]);
+            for _ in 0..(1 + r.below(14)) * i64::from(SLOT) {
+                p.push(signal.next(r));
+            }
+            signal.amplitude = strength;
+        }
+        1 => {
+            for _ in 0..1 + r.below(400) {
+                signal.next(r);
+            }
+            for _ in 0..14 * SLOT {
+                p.push(signal.next(r));
+            }
+        }
+        2 => {
+            for _ in 0..1 + r.below(30) {
+                let x = signal.next(r);
+                p.push(x);
+                p.push(x);
+            }
+            for _ in 0..10 * SLOT {
+                p.push(signal.next(r));
+            }
+        }
+        _ => signal.turn += 2e-6,
+    }
+}
+
 fn fades(p: &mut Player, r: &mut Random, size: Size) {
     for _ in 0..times(size, [0, 1, 40]) {
         let mut signal = any_signal(standard(), 4, r);
@@ -191,41 +222,13 @@ fn fades(p: &mut Player, r: &mut Random, size: Size) {
             for _ in 0..(5 + r.below(5)) * i64::from(SLOT) {
                 p.push(signal.next(r));
             }
-            match r.below(4) {
-                0 => {
-                    let strength = signal.amplitude;
-                    signal.amplitude = pick(r, &[0.0, 3.0]);
-                    for _ in 0..(1 + r.below(14)) * i64::from(SLOT) {
-                        p.push(signal.next(r));
-                    }
-                    signal.amplitude = strength;
-                }
-                1 => {
-                    for _ in 0..1 + r.below(400) {
-                        signal.next(r);
-                    }
-                    for _ in 0..14 * SLOT {
-                        p.push(signal.next(r));
-                    }
-                }
-                2 => {
-                    for _ in 0..1 + r.below(30) {
-                        let x = signal.next(r);
-                        p.push(x);
-                        p.push(x);
-                    }
-                    for _ in 0..10 * SLOT {
-                        p.push(signal.next(r));
-                    }
-                }
-                _ => signal.turn += 2e-6,
-            }
+            mishap(p, &mut signal, r);
             p.look();
         }
     }
 }
 
-fn any_taps(r: &mut Random) -> [i16; 22] {
+pub(super) fn any_taps(r: &mut Random) -> [i16; 22] {
     match r.below(3) {
         0 => std::array::from_fn(|_| r.next() as i16),
         1 => std::array::from_fn(|k| if k == 10 { 16_384 } else { r.signed(11) as i16 }),
@@ -233,9 +236,9 @@ fn any_taps(r: &mut Random) -> [i16; 22] {
     }
 }
 
-/// One call that is not a symbol, at any moment.
-fn any_call(p: &mut Player, r: &mut Random) {
-    let call = match r.below(12) {
+/// One call that is not a symbol, at any moment; its arguments are right.
+pub(super) fn any_call(p: &Player, r: &mut Random) -> Call {
+    match r.below(12) {
         0 | 1 => {
             let bits = 1 + r.below(5) as usize;
             let mut all = [0; POINTS];
@@ -248,12 +251,11 @@ fn any_call(p: &mut Player, r: &mut Random) {
         8 => Call::Look,
         9 => Call::Event(r.below(4) as u64),
         10 if r.below(4) == 0 => {
-            let at = p.desk.receiver.next() as u64 + r.positive(30) as u64;
+            let at = (p.desk.receiver.next() as u64).saturating_add(r.positive(30) as u64);
             Call::Restart { at, acc: 9_296 }
         }
-        _ => Call::Eq(crate::eq::calls::Call::Tell),
-    };
-    p.refused(call, 0);
+        _ => Call::Eq(EqCall::Tell),
+    }
 }
 
 fn on_the_way(p: &mut Player, r: &mut Random, size: Size) {
@@ -265,7 +267,8 @@ fn on_the_way(p: &mut Player, r: &mut Random, size: Size) {
         for _ in 0..40 * SLOT {
             p.push(signal.next(r));
             if r.below(often) == 0 {
-                any_call(p, r);
+                let call = any_call(p, r);
+                p.refused(call, 0);
             }
         }
     }
@@ -331,7 +334,7 @@ fn positions(p: &mut Player, r: &mut Random, size: Size) {
         load(p, 2, 90_000);
         p.refused(Call::Open(1), 0);
         while p.push(signal.next(r)).refusal == 0 {}
-        for _ in 0..PLAY {
+        for _ in 0..3 {
             p.refuses([5, 5], 7);
         }
         p.ask(Call::End);
@@ -341,8 +344,9 @@ fn positions(p: &mut Player, r: &mut Random, size: Size) {
 
 /// Frames with marks, marks that are missed, a loss by them at several offsets.
 fn markers(p: &mut Player, r: &mut Random, size: Size) {
-    for offset in [0, 1_234, 9_295, 4_000].into_iter().take(times(size, [0, 0, 4]) as usize) {
-        marker_loss(p, r, offset);
+    let all = [(9_295, 108), (9_295, 3), (0, 3), (1_234, 107), (4_000, 60)];
+    for (offset, slot) in all.into_iter().take(times(size, [0, 1, 5]) as usize) {
+        marker_loss(p, r, offset, slot);
     }
     for _ in 0..times(size, [0, 0, 6]) {
         let mut signal = any_signal(standard(), 3, r);
@@ -385,6 +389,7 @@ pub fn sample(p: &mut Player, r: &mut Random) {
             p.refused(Call::Taps { frame: 3, taps: std::array::from_fn(|k| if k == 10 { 16_000 } else { 90 }) }, 0);
         }
     }
+    one_of_each_part(p, r);
     p.refused(Call::End, 0);
     p.refused(Call::End, 0);
     refusals(p, r, Size::Sample);
@@ -408,7 +413,7 @@ fn refusals(p: &mut Player, r: &mut Random, size: Size) {
     for (k, lengths) in
         [[0, 1_023, 1_025], [9_295, 9_297, 0], [18_591, 18_593, 0], [44_879, 0, 1]].into_iter().enumerate()
     {
-        for length in lengths {
+        for length in lengths.into_iter().take(times(size, [1, 3, 3]) as usize) {
             let mut lent = RIGHT;
             lent[k] = length;
             p.lend(lent);
@@ -416,12 +421,23 @@ fn refusals(p: &mut Player, r: &mut Random, size: Size) {
             p.ask(Call::Words(wrong));
             p.refuses([5, 5], if k == 0 { 2 } else { 1 });
             p.ask(Call::Words(right));
-            p.look();
         }
     }
     p.lend([1_024, 9_296, 18_592, 44_880]);
     p.refuses([5, -5], 0);
     p.lend(RIGHT);
+    wrong_words(p);
+    for acc in [0, 9_295, 9_297] {
+        p.refused(Call::Restart { at: END, acc }, 1);
+        p.refused(Call::Restart { at: 0, acc }, 1);
+    }
+    p.refused(Call::Restart { at: 0, acc: 9_296 }, 7);
+    wrong_loads(p, r);
+    p.look();
+}
+
+fn wrong_words(p: &mut Player) {
+    let right = p.desk.words;
     for (k, entry) in [(0, 0), (47, 2), (48, -2), (95, 127), (60, -128)] {
         let mut wrong = right;
         wrong[k / 48][k % 48] = entry;
@@ -430,11 +446,9 @@ fn refusals(p: &mut Player, r: &mut Random, size: Size) {
     }
     p.ask(Call::Words(right));
     p.refuses([7, -7], 0);
-    for acc in [0, 9_295, 9_297] {
-        p.refused(Call::Restart { at: END, acc }, 1);
-        p.refused(Call::Restart { at: 0, acc }, 1);
-    }
-    p.refused(Call::Restart { at: 0, acc: 9_296 }, 7);
+}
+
+fn wrong_loads(p: &mut Player, r: &mut Random) {
     let mut points = [0; POINTS];
     points.iter_mut().for_each(|v| *v = r.next() as i16);
     for (bits, count, k, refusal) in [
@@ -454,15 +468,13 @@ fn refusals(p: &mut Player, r: &mut Random, size: Size) {
     ] {
         p.refused(Call::Points { bits, k, count, points }, refusal);
     }
-    p.look();
 }
 
-/// The equaliser's single numbers replaced.
-fn bend(p: &mut Player, change: impl FnOnce(&mut Equaliser)) {
-    let mut e = p.desk.receiver.eq;
-    change(&mut e);
-    let (filled, from, opened) = (e.filled, e.from, e.opened);
-    p.ask(Call::Eq(EqCall::PutNumbers { filled, from, opened, frame: e.sums.frame, count: e.sums.count }));
+/// The count of the sums is another.
+fn counted(p: &mut Player, count: impl FnOnce(u32) -> u32) {
+    let mut x = p.desk.receiver.clone();
+    x.eq.sums.count = count(x.eq.sums.count);
+    p.hand_in(&x);
 }
 
 /// A training count at its limit: a slot makes 24 trainings, or 5 fewer if it is the first. It is all of them or none.
@@ -475,12 +487,13 @@ fn full_sums(p: &mut Player, r: &mut Random, size: Size) {
         load(p, 1, 90_000);
         let mut slots = 0;
         let mut refused = 0;
-        for _ in 0..9 * SLOT {
+        // up to the slot that finds them full
+        for _ in 0..(9 + spare / 24) * SLOT {
             let answer = p.push(signal.next(r));
             slots += u32::from(answer.corrected > 0);
             if answer.corrected > 0 && slots == 2 {
                 p.refused(Call::Open(5), 0);
-                bend(p, |e| e.sums.count = LIMIT - spare);
+                counted(p, |_| LIMIT - spare);
             }
             if answer.refusal != 0 {
                 assert_eq!(answer.refusal, 8);
@@ -489,134 +502,12 @@ fn full_sums(p: &mut Player, r: &mut Random, size: Size) {
                 // nothing has changed: the same symbol is refused again, and taken once there is room
                 let x = signal.next(r);
                 p.refuses(x, 8);
-                bend(p, |e| e.sums.count -= 100);
+                counted(p, |n| n - 100);
                 p.refuses(x, 0);
             }
         }
         assert!(refused > 0, "sums that are full");
         p.refused(Call::End, 0);
         p.look();
-    }
-}
-
-/// Any arguments at all.
-fn any_length(r: &mut Random, right: u64) -> u64 {
-    match r.below(4) {
-        0 => right,
-        1 => right.wrapping_add(r.near() as u64),
-        2 => r.below(2 * right) as u64,
-        _ => r.next(),
-    }
-}
-
-fn bent_number(r: &mut Random, right: u32) -> u32 {
-    match r.below(6) {
-        0 => r.next() as u32,
-        1 => right.wrapping_add(r.near() as u32),
-        2 => pick(r, &[0, 11, 5, 6, 10, 12]),
-        3 => pick(r, &[4_194_303, 4_194_304, 4_194_305]),
-        _ => right,
-    }
-}
-
-fn wide_entry(r: &mut Random) -> i64 {
-    match r.below(4) {
-        0 => r.next() as i64,
-        1 => pick(r, &[1 << 53, -((1 << 53) - (1 << 38)), (1 << 53) - (1 << 37), 199_011_604_627_456]) + r.near(),
-        _ => r.signed(53),
-    }
-}
-
-/// A part of the equaliser replaced by anything.
-fn any_bend(p: &mut Player, r: &mut Random) -> EqCall {
-    let e = &p.desk.receiver.eq;
-    match r.below(6) {
-        0 => EqCall::PutLine { line: std::array::from_fn(|_| r.next() as i16) },
-        1 => EqCall::PutTaps { taps: any_taps(r) },
-        2 => EqCall::PutUpper { group: r.below(7) as u64, values: std::array::from_fn(|_| wide_entry(r)) },
-        3 => EqCall::PutRight { values: std::array::from_fn(|_| wide_entry(r)) },
-        _ => EqCall::PutNumbers {
-            filled: bent_number(r, e.filled),
-            from: (r.below(2) == 0).then_some(r.next() as u32),
-            opened: r.below(2) == 0,
-            frame: r.next() as u32,
-            count: bent_number(r, e.sums.count),
-        },
-    }
-}
-
-fn any_damage(p: &mut Player, r: &mut Random) {
-    match r.below(12) {
-        0 => {
-            let lent = RIGHT;
-            p.lend(std::array::from_fn(|k| any_length(r, lent[k])));
-            (0..3).for_each(|_| drop(p.push([r.next() as i8, r.next() as i8])));
-            p.lend(RIGHT);
-        }
-        1 => {
-            let right = p.desk.words;
-            let mut words = right;
-            words[r.below(2) as usize][r.below(48) as usize] = r.next() as i8;
-            p.ask(Call::Words(words));
-            (0..3).for_each(|_| drop(p.push([r.next() as i8, r.next() as i8])));
-            p.ask(Call::Words(right));
-        }
-        2 => {
-            let any = r.next();
-            let bits = pick(r, &[0, 1, 2, 3, 4, 5, 6, 200, any as u8]);
-            let count = any_length(r, 2u64.wrapping_shl(bits.into()));
-            let points = std::array::from_fn(|_| r.next() as i16);
-            let small = r.positive(24);
-            let k = pick(r, &[0, 1 << 24, (1 << 24) + 1, -1, small, any as i64]);
-            p.ask(Call::Points { bits, k, count, points });
-        }
-        3 => drop(p.ask(Call::Taps { frame: r.next() as u32, taps: any_taps(r) })),
-        4 => drop(p.ask(Call::Open(r.next() as u32))),
-        5 => drop(p.ask(Call::End)),
-        6 => {
-            let next = p.desk.receiver.next() as u64;
-            let any = r.next();
-            let at = pick(r, &[next, next + 1, next.wrapping_sub(1), END, any]);
-            let acc = any_length(r, 9_296);
-            p.ask(Call::Restart { at, acc });
-        }
-        7 => {
-            // a call that there is not
-            let mut call = [0; 24];
-            call.iter_mut().for_each(|n| *n = r.next());
-            p.unknown(call);
-        }
-        _ => {
-            let call = any_bend(p, r);
-            p.ask(Call::Eq(call));
-        }
-    }
-}
-
-/// Random calls with any arguments, wrong stores, an equaliser with any numbers: each answer is the model's, that is a refusal by document 01's
-/// number, after which stores and equaliser are as before, or what a taken call gives.
-fn damage(p: &mut Player, r: &mut Random, size: Size) {
-    for _ in 0..times(size, [0, 4, 60]) {
-        let mut signal = any_signal(standard(), 2, r);
-        (signal.amplitude, signal.payload, signal.noise) = (50.0, 0.5, 1);
-        p.start(&signal.words, &cosine_table(), r.below(1 << 60) as u64, 0);
-        let often = pick(r, &[40, 300, 5_000]);
-        for _ in 0..7 * SLOT {
-            p.push(signal.next(r));
-            if r.below(often) == 0 {
-                any_damage(p, r);
-                if r.below(8) == 0 {
-                    p.look();
-                }
-                if p.desk.receiver.next() >= END.into() {
-                    // no symbol is taken there
-                    p.start(&signal.words, &cosine_table(), r.below(1 << 61) as u64, 0);
-                }
-                if !p.desk.receiver.in_range() && r.below(3) != 0 {
-                    // back in range, so that the stream goes on
-                    bend(p, |e| (e.filled, e.opened, e.sums.count) = (if e.filled == 0 { 0 } else { 11 }, false, 0));
-                }
-            }
-        }
     }
 }

@@ -1,12 +1,13 @@
 //! A receiver made of the stages' models, wired as document 01, "The receiver", says, with its refusals and docs/RANGES.md's figures for a
 //! receiver: for what the Rust cannot be given, that is states handed in, lent memory of any contents, refusals.
 
+use super::ranges::{Ends, END, ENDS};
 use crate::demap::soft::pairs;
 use crate::eq::calls::{Equaliser, Pairs, Sums};
 use crate::eq::model::no_sums;
 use crate::frame::calls::Ones;
 use crate::frame::model as frame;
-use crate::phase::calls::{Corrected, Head, Held, Nco, Phase, Whole, Word};
+use crate::phase::calls::{Head, Held, Nco, Phase, Whole, Word};
 use crate::phase::model as phase;
 use crate::sync::calls::{Event, Kind};
 use crate::sync::model as sync;
@@ -14,11 +15,27 @@ use isdbs3_phy::chain::demap::demap;
 use isdbs3_phy::chain::frame::{part, Part};
 
 const SLOT: u64 = 9_296;
-const END: u64 = 1 << 62;
-/// docs/RANGES.md: a part of a correlation of rotated symbols; a head's size.
-const PART: i32 = 98_328;
-const AMP: i64 = 179_130;
-const RIGHT_HAND: i64 = 199_011_604_627_456;
+
+/// What a refused symbol changes all the same.
+#[derive(Clone, Copy, PartialEq, Eq)]
+pub enum Spoils {
+    Nothing,
+    Window,
+    Accumulators,
+    Store,
+    Soft,
+}
+
+/// A feed: the symbol call, repeated.
+#[derive(Clone, Copy)]
+pub struct Feeding {
+    /// An odd last byte is no symbol.
+    pub odd_byte_left: bool,
+    /// A refusal comes with no symbol taken.
+    pub refused_alone: bool,
+    /// The state's numbers are tested for each symbol.
+    pub tests_each: bool,
+}
 
 /// Document 01's choices. A slip is another one.
 #[derive(Clone)]
@@ -48,8 +65,17 @@ pub struct Rules {
     /// Refusals: 6 before 7; 8 for any of a symbol's trainings, before anything is changed.
     pub range_first: bool,
     pub whole_or_nothing: bool,
+    pub spoils: Spoils,
+    /// 7 for a slot whose last symbol would stand past the end.
+    pub slot_ends: bool,
+    /// Sums may leave their range within a slot.
+    pub sums_unseen: bool,
     /// The soft buffer's least length.
     pub soft: usize,
+    pub ends: Ends,
+    /// The state's numbers are tested.
+    pub tested: bool,
+    pub feed: Feeding,
 }
 
 pub const RULES: Rules = Rules {
@@ -69,7 +95,13 @@ pub const RULES: Rules = Rules {
     slot_before_loss: true,
     range_first: true,
     whole_or_nothing: true,
+    spoils: Spoils::Nothing,
+    slot_ends: true,
+    sums_unseen: true,
     soft: 44_880,
+    ends: ENDS,
+    tested: true,
+    feed: Feeding { odd_byte_left: true, refused_alone: true, tests_each: true },
 };
 
 /// A loaded constellation; 0 bits before a load.
@@ -122,6 +154,7 @@ pub struct Lent<'a> {
     pub soft: &'a mut [i8],
 }
 
+#[derive(Clone)]
 pub struct Receiver {
     pub rules: Rules,
     pub nco: Nco,
@@ -130,14 +163,6 @@ pub struct Receiver {
     pub eq: Equaliser,
     pub line: frame::Line,
     pub points: Points,
-}
-
-fn small(c: [i32; 2]) -> bool {
-    c.iter().all(|v| (-PART..=PART).contains(v))
-}
-
-fn known(slot: Option<(u8, u32)>) -> bool {
-    slot.is_none_or(|(number, _)| number < 120)
 }
 
 fn head_of(event: &Event) -> Option<Head> {
@@ -174,47 +199,6 @@ impl Receiver {
         (self.eq, self.line) = (self.rules.frame.eq.start(), self.rules.frame.start());
         self.points = NO_POINTS;
         refusal
-    }
-
-    /// docs/RANGES.md, the figures in brackets.
-    pub fn in_range(&self) -> bool {
-        let s = &self.sync.state;
-        let stage = match s.stage {
-            sync::Stage::Before => true,
-            sync::Stage::First(r) => small(r.f) && small(r.s),
-            sync::Stage::Known { last, .. } => small(last),
-        };
-        let run = s.in_range() && stage && s.peak <= 3_758_114_816 && s.sum <= 34_935_435_329_536;
-        let window = s.window.iter().all(|v| (-4_096..=4_096).contains(v));
-        let slot = self.phase.is_none_or(|x| {
-            let h = &x.head;
-            let stands = (46_480..=END - 24).contains(&h.at) && (1..=SLOT as u32).contains(&x.count);
-            stands && small(h.corr) && (0..=AMP).contains(&h.amp) && known(h.slot) && h.nco_phase == 0
-        });
-        let line = &self.line;
-        let waits = |(k, p): (usize, &Corrected)| {
-            let k = k as u64;
-            u64::from(p.j) == 9_291 + k && (55_771 + k..=END - 29 + k).contains(&p.at) && known(p.slot)
-        };
-        let waiting = match line.count {
-            0 => true,
-            5 => line.places.iter().enumerate().all(waits),
-            _ => false,
-        };
-        let last = line.last.is_none_or(|at| (55_775..=END - 25).contains(&at));
-        let right = |s: &Sums| s.p.iter().all(|v| v.unsigned_abs() <= RIGHT_HAND as u64);
-        let e = &self.eq;
-        let sums = !e.opened || (self.rules.frame.eq.sums_in_range(&e.sums) && right(&e.sums));
-        let points = self.points.bits <= 5 && self.points.k <= 1 << 24;
-        self.rules.phase.nco_in_range(&self.nco)
-            && run
-            && window
-            && slot
-            && waiting
-            && last
-            && [0, 11].contains(&e.filled)
-            && sums
-            && points
     }
 
     pub fn next(&self) -> u128 {
@@ -313,7 +297,7 @@ impl Receiver {
             3
         } else if past && !self.rules.range_first {
             7
-        } else if !self.in_range() {
+        } else if self.rules.tested && !self.in_range() {
             6
         } else if past {
             7
@@ -322,10 +306,22 @@ impl Receiver {
         }
     }
 
+    /// Nothing has changed, but for a slip.
+    fn refused(&mut self, refusal: u8, l: &mut Lent) -> Answer {
+        match self.rules.spoils {
+            Spoils::Nothing => {}
+            Spoils::Window => self.sync.state.window.rotate_left(2),
+            Spoils::Accumulators => l.acc.iter_mut().take(1).for_each(|a| *a ^= 1),
+            Spoils::Store => l.store.iter_mut().take(1).for_each(|v| *v ^= 1),
+            Spoils::Soft => l.soft.iter_mut().take(1).for_each(|v| *v ^= 1),
+        }
+        Answer::refused(refusal)
+    }
+
     pub fn symbol(&mut self, x: [i8; 2], l: &mut Lent) -> Answer {
         let refusal = self.early(l);
         if refusal != 0 {
-            return Answer::refused(refusal);
+            return self.refused(refusal, l);
         }
         let (_, nco, r) = self.rules.phase.rotate(&self.nco, x, l.table);
         let r = r.map(|v| v as i16);
@@ -341,7 +337,7 @@ impl Receiver {
             if t >= 23 {
                 self.store(window, l.store);
             }
-            return Answer { corrected: 0, ..Answer::refused(0) };
+            return Answer::refused(0);
         }
         self.loud(nco, &said.events, window, before, t, l)
     }
@@ -366,6 +362,20 @@ impl Receiver {
         }
     }
 
+    /// "Each head to `Nco`, then `SlotPhase`": both afterwards, and the slot that is due.
+    fn heard(&self, mut nco: Nco, events: &[Event; 3]) -> (Nco, Phase, Option<Whole>) {
+        let (mut phase, mut due) = (self.phase, None);
+        for head in events.iter().filter_map(head_of) {
+            if self.rules.hears {
+                nco = self.rules.phase.hear(&nco, &head).1;
+            }
+            let whole = phase.filter(|x| u64::from(x.count) == SLOT);
+            due = due.or(whole.map(|_| self.rules.phase.head(&phase, &head).2.expect("a slot")));
+            phase = Some(Held { head, count: 0 });
+        }
+        (nco, phase, due)
+    }
+
     /// A symbol with events.
     fn loud(
         &mut self,
@@ -377,15 +387,7 @@ impl Receiver {
         l: &mut Lent,
     ) -> Answer {
         let lost = events.iter().any(|e| matches!(e, Event::Lost { .. }));
-        let (mut nco, mut phase, mut due) = (nco, self.phase, None);
-        for head in events.iter().filter_map(head_of) {
-            if self.rules.hears {
-                nco = self.rules.phase.hear(&nco, &head).1;
-            }
-            let whole = phase.filter(|x| u64::from(x.count) == SLOT);
-            due = due.or(whole.map(|_| self.rules.phase.head(&phase, &head).2.expect("a slot")));
-            phase = Some(Held { head, count: 0 });
-        }
+        let (nco, phase, due) = self.heard(nco, events);
         let given = match due {
             Some(slot) if self.rules.slot_before_loss || !lost => self.given(&slot, l),
             _ => Ok(None),
@@ -393,28 +395,19 @@ impl Receiver {
         let given = match given {
             Ok(given) => given,
             Err(refusal) => {
-                let (acc, state) = before.expect("events come at a loud place");
                 if self.rules.whole_or_nothing {
+                    let (acc, state) = before.expect("events come at a loud place");
                     l.acc.copy_from_slice(&acc);
                     self.sync.state = state;
                 }
-                return Answer::refused(refusal);
+                return self.refused(refusal, l);
             }
         };
         if !self.rules.head_first && !lost && t >= 23 {
             self.store(window, l.store);
         }
         (self.nco, self.phase) = (nco, phase);
-        let mut answer = Answer::refused(0);
-        answer.events = *events;
-        if !self.rules.in_order && events[1] != Event::Nothing {
-            answer.events.swap(0, 1);
-        }
-        if let Some(given) = given {
-            (answer.runs, answer.corrected) = (given.runs, given.corrected);
-            (self.eq, self.line) = (given.eq, given.line);
-            answer.soft = self.soft(&given.aligned, l.soft);
-        }
+        let answer = self.told(events, given, l.soft);
         if lost {
             self.restart_others();
         } else if t >= 23 && self.rules.head_first {
@@ -423,9 +416,23 @@ impl Receiver {
         answer
     }
 
+    /// What it tells, with the slot that it gives.
+    fn told(&mut self, events: &[Event; 3], given: Option<Given>, soft: &mut [i8]) -> Answer {
+        let mut answer = Answer { events: *events, ..Answer::refused(0) };
+        if !self.rules.in_order && events[1] != Event::Nothing {
+            answer.events.swap(0, 1);
+        }
+        if let Some(given) = given {
+            (answer.runs, answer.corrected) = (given.runs, given.corrected);
+            (self.eq, self.line) = (given.eq, given.line);
+            answer.soft = self.soft(&given.aligned, soft);
+        }
+        answer
+    }
+
     /// The slot's symbols corrected and aligned; 7 where one would stand past the end, 8 where a training finds the sums full.
     fn given(&self, slot: &Whole, l: &Lent) -> Result<Option<Given>, u8> {
-        if slot.head.at + SLOT > END {
+        if self.rules.slot_ends && slot.head.at + SLOT > END {
             return Err(7);
         }
         let (mut eq, mut line) = (self.eq, self.line.clone());
@@ -433,11 +440,13 @@ impl Receiver {
         let mut aligned = Vec::with_capacity(SLOT as usize + 5);
         for j in 0..SLOT {
             let c = self.rules.phase.correct(slot, j, l.table, l.store)?;
-            let (refusal, out) = self.rules.frame.push(&mut eq, &mut line, &c, l.words);
-            if refusal != 0 {
-                return Err(refusal);
+            if self.rules.frame.full(&eq, &line, &c) {
+                return Err(8);
             }
-            aligned.extend(out);
+            if !self.rules.sums_unseen && !self.rules.frame.in_range(&eq, &line) {
+                return Err(6);
+            }
+            aligned.extend(self.rules.frame.taken(&mut eq, &mut line, &c, l.words));
         }
         let (tail, body) = aligned.split_at(waiting.min(aligned.len()));
         let run = |part: &[frame::Aligned]| {

@@ -226,3 +226,8 @@ pub type Told = [u64; 40];
 pub fn mixed(digest: u64, number: u64) -> u64 {
     digest.wrapping_mul(2_654_435_761).wrapping_add(number)
 }
+
+/// Of entries from the first on.
+pub fn digest(entries: impl IntoIterator<Item = impl Into<i64>>) -> u64 {
+    entries.into_iter().fold(0, |d, v| mixed(d, v.into() as u64))
+}

@@ -167,6 +167,7 @@ fn ones(w: &Word) -> bool {
 }
 
 /// The calls, by document 01. Lent memory is `acc`.
+#[derive(Clone)]
 pub struct Sync {
     pub rules: Rules,
     pub state: State,

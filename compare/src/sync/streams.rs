@@ -480,7 +480,7 @@ fn out_of_range(p: &mut Player, r: &mut Random, _: Size) {
 }
 
 /// At an end, near it, or anywhere between.
-fn between(r: &mut Random, low: u64, high: u64) -> u64 {
+pub(crate) fn between(r: &mut Random, low: u64, high: u64) -> u64 {
     match r.below(4) {
         0 => low + r.below((high - low).min(3) + 1) as u64,
         1 => high - r.below((high - low).min(3) + 1) as u64,
@@ -502,7 +502,7 @@ fn corr(r: &mut Random) -> [i32; 2] {
 }
 
 /// In range, and no more coherent than chance makes it; something is due within the next symbols.
-fn any_state(r: &mut Random) -> State {
+pub(crate) fn any_state(r: &mut Random) -> State {
     let place = between(r, 0, SLOT - 1);
     let offset = ((place + r.below(4) as u64) % SLOT) as u16;
     let t = match r.below(8) {

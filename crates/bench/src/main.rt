@@ -1,14 +1,12 @@
-// Reads a capture from standard input and prints its lines: document 01, "Capture". What is printed for an answer stands in specs/Bench.antt; here it
+// Reads a capture from standard input and prints its lines: document 01, "Capture". What is printed for an answer stands in crate bench_text; here it
 // is only read, called and written, in blocks of 65,536 bytes, whatever the capture's length.
-mod text;
-
+use bench_text::Page;
 use capture::Heading;
 use receiver::Answered;
 use receiver::Receiver;
 use receiver_slot::AlignedRun;
 use receiver_slot::Runs;
 use sync_step::Events;
-use text::Page;
 ghost use mathlib.Core.Path.{_≡_};
 ghost use mathlib.Core.Bool.{true};
 ghost use Prim.Native.Nat.{_+_, _≤_, _<_};
@@ -80,7 +78,7 @@ fn run(r: AlignedRun, soft: &[i8], v: usize, out: &mut [u8], place: usize) -> Ra
     let mut ok = true;
     let mut turns: u32 = 65536;
     while 0 < turns {
-        let p = text::fill(
+        let p = bench_text::ranged::fill(
             r,
             Page {
                 i: i,
@@ -116,7 +114,7 @@ fn answer(es: Events, rs: Runs, soft: &[i8], out: &mut [u8], place: usize) -> Pu
     if !w.ok {
         return w;
     }
-    let e = text::events(es, out, w.place);
+    let e = bench_text::ranged::events(es, out, w.place);
     let t = rs.tail;
     let b = rs.body;
     let x = run(t, soft, 0, out, e);
@@ -305,7 +303,7 @@ fn finish(refusal: u8, symbols: u64, place: usize, out: &mut [u8])
 {
     let w = with_room(out, place);
     if w.ok {
-        let n = text::last(refusal, symbols, out, w.place);
+        let n = bench_text::ranged::last(refusal, symbols, out, w.place);
         write(out, n);
     }
 }

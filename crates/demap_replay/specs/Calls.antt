@@ -1,10 +1,8 @@
 -- What each call answers and leaves, by the definitions of learn and in_force.
 use Prim.Native.Nat.{ℕ, _/_}
 use mathlib.Core.List.{List, _++_}
-use lib.Dec.{ltb}
 use lib.IntN.{ℤ, pos}
-use lib.ListN.{length, set, take, drop, replicate}
-use Rattle.laws.specs.Choice.{if_then_else_}
+use lib.ListN.{length, take, drop, replicate}
 use Rattle.demap.specs.Demap.{metricOf}
 use Rattle.demap.specs.Answers.{blockRefusal, blockBuffer}
 use Rattle.learn.specs.Learning.{newLearn}
@@ -12,20 +10,13 @@ use Rattle.learn.specs.Answers.{pilotAnswer, noiseAnswer, pointsAnswer, pointsS
 use Rattle.in_force.specs.InForce.{defaultForce}
 use Rattle.in_force.specs.Answers.{nextAnswer, nextSlice, setsRefusal, pointsInForce}
 use Rattle.wire.specs.Wire.{bits}
-use Rattle.wire.specs.Digest.{digestOf}
+use Rattle.digest.specs.Digest.{digestOf}
+use Rattle.fields.specs.Fields.{at, at32, signed16, signed64, flagOf}
 use Rattle.demap_replay.specs.declared.kept.Kept.{Kept}
 use Rattle.demap_replay.specs.declared.kept.Turn.{Turn}
 use Rattle.demap_replay.specs.Kept.{withLearn, withForce, turned}
-use Rattle.demap_replay.specs.Given.{at, at32, signed16, signed64, sumPut, countPut, noisePut, forceOf}
-use Rattle.demap_replay.specs.Told.{singleTold, flagOf, figureTold, labelTold, softTold}
-
--- ---- slices: number 1 names an entry, number 2 is its value
-unfoldable pub setOf : List ℕ → List ℤ → List ℤ
-setOf p l = if ltb (at p 1) (length l) then set l (at p 1) (signed16 p 2) else l
-
--- the smaller
-unfoldable pub leastOf : ℕ → ℕ → ℕ
-leastOf n all = if ltb n all then n else all
+use Rattle.demap_replay.specs.Given.{sumPut, countPut, noisePut, forceOf}
+use Rattle.demap_replay.specs.Told.{singleTold, figureTold, labelTold, softTold}
 
 -- ---- the demapper
 unfoldable pub metricCall : List ℕ → List ℕ

@@ -1,33 +1,15 @@
--- States as calls put them together. A field takes as many low bits of its number as it has; a signed field's are two's complement. A flag is
--- off for 0 and on for any other number.
-use Prim.Native.Nat.{ℕ, _%_, _^_}
-use mathlib.Core.Bool.{Bool, not}
+-- States as calls put them together.
+use Prim.Native.Nat.{ℕ}
 use mathlib.Core.List.{List, [], _∷_}
 use lib.Dec.{eqb, ltb}
 use lib.IntN.{ℤ}
-use lib.ListN.{getD, set}
+use lib.ListN.{set}
 use Rattle.laws.specs.Choice.{if_then_else_}
 use Rattle.learn.specs.declared.Learn.{Learn}
 use Rattle.in_force.specs.declared.InForce.{InForce}
 use Rattle.in_force.specs.declared.Source.{Source}
 use Rattle.in_force.specs.declared.Source.the-variants.{Never, Frame}
-use Rattle.wire.specs.Wire.{signed}
-
--- number k; as a field of 32 bits, as signed fields of 16 and 64 bits, and as a flag
-abbrev pub at : List ℕ → ℕ → ℕ
-at p k = getD p k 0
-
-abbrev pub at32 : List ℕ → ℕ → ℕ
-at32 p k = at p k % 2 ^ 32
-
-abbrev pub signed16 : List ℕ → ℕ → ℤ
-signed16 p k = signed (2 ^ 15) (at p k % 2 ^ 16)
-
-abbrev pub signed64 : List ℕ → ℕ → ℤ
-signed64 p k = signed (2 ^ 63) (at p k)
-
-abbrev pub on : List ℕ → ℕ → Bool
-on p k = not (eqb (at p k) 0)
+use Rattle.fields.specs.Fields.{at, at32, signed64, on}
 
 -- ---- a state of learning with another sum, another count, other noise
 unfoldable pub sumPut : Learn → ℕ → ℤ → Learn

@@ -4,14 +4,14 @@ use mathlib.Core.List.{List, [], _∷_, _++_}
 use lib.IntN.{ℤ}
 use lib.ListN.{getD, replicate}
 use Rattle.wire.specs.Wire.{numbersOf, packedOf}
-use Rattle.wire.specs.Digest.{digestOf}
+use Rattle.digest.specs.Digest.{digestOf}
 use Rattle.wire.specs.Blocks.{replayed as replayedBy, left}
 use Rattle.demap_replay.specs.declared.kept.Kept.{Kept}
 use Rattle.demap_replay.specs.declared.kept.Turn.{Turn}
 use Rattle.demap_replay.specs.Kept.{turned}
-use Rattle.demap_replay.specs.Given.{at}
+use Rattle.fields.specs.Fields.{at, setOf}
 use Rattle.demap_replay.specs.Told.{singleTold, forceTold}
-use Rattle.demap_replay.specs.Calls.{setOf, newCall, pilotCall, noiseCall, sumCall, countCall, noisePutCall, defaultCall, forceCall, nextCall, nextLeft, pointsCall, pointsLeft, partTold, labelCall, figureCall, metricCall, blockCall}
+use Rattle.demap_replay.specs.Calls.{newCall, pilotCall, noiseCall, sumCall, countCall, noisePutCall, defaultCall, forceCall, nextCall, nextLeft, pointsCall, pointsLeft, partTold, labelCall, figureCall, metricCall, blockCall}
 
 -- the states, and the slices of learned and of nominal points
 pub record Desk : Type 0 where

@@ -1,6 +1,6 @@
 -- Answers as 24 numbers: the refusal, the answer's numbers, and zeros behind them. A negative number is 2^64 more.
 use Prim.Native.Nat.{ℕ, _+_, _*_}
-use mathlib.Core.Bool.{Bool, false}
+use mathlib.Core.Bool.{false}
 use mathlib.Core.List.{List, [], _∷_, _++_}
 use lib.Dec.{ltb}
 use lib.IntN.{ℤ, pos}
@@ -14,6 +14,7 @@ use Rattle.in_force.specs.declared.InForce.{InForce}
 use Rattle.in_force.specs.declared.Source.{Source}
 use Rattle.in_force.specs.declared.Source.the-variants.{Never, Frame}
 use Rattle.wire.specs.Wire.{bits}
+use Rattle.fields.specs.Fields.{flagOf}
 
 -- nine numbers
 unfoldable pub told : ℕ → List ℕ → List ℕ
@@ -23,9 +24,6 @@ told refusal v =
 -- two numbers
 unfoldable pub singleTold : ℕ → ℕ → ℕ → List ℕ
 singleTold refusal v w = told refusal (v ∷ w ∷ replicate 7 0)
-
-unfoldable pub flagOf : Bool → ℕ
-flagOf b = if b then 1 else 0
 
 -- ---- four soft values from o on
 unfoldable pub softTold : ℕ → ℕ → List ℤ → List ℕ

@@ -16,8 +16,8 @@ fn read<'a>(op: u64, k: Kept, p: &[u64; 24], learned: &'a [i16], nominal: &'a [i
     ensures { λ r. ⌜ r ≡ readOf op (now (p .entry)) (desk k (now (learned .entry)) (now (nominal .entry))) ⌝ }
 {
     match op {
-        12 => told::single(0, wire::digest(learned), 0),
-        13 => told::single(0, wire::digest(nominal), 0),
+        12 => told::single(0, digest::of_i16(learned), 0),
+        13 => told::single(0, digest::of_i16(nominal), 0),
         14 => calls::part(k, p, learned, nominal),
         15 => calls::label(k, p),
         16 => {
@@ -42,11 +42,11 @@ fn on_slices(op: u64, k: Kept, p: &[u64; 24], learned: &mut [i16], nominal: &mut
         8 => calls::next(k, p, learned),
         9 => calls::points(k, p, learned),
         10 => {
-            calls::set(p, learned);
+            fields::set(p, learned);
             kept::turned(k, told::single(0, 0, 0))
         }
         11 => {
-            calls::set(p, nominal);
+            fields::set(p, nominal);
             kept::turned(k, told::single(0, 0, 0))
         }
         _ => {

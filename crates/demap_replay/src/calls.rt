@@ -5,25 +5,7 @@ use crate::kept::Kept;
 use crate::kept::Turn;
 use crate::told;
 ghost use mathlib.Core.Path.{_≡_};
-ghost use Prim.Native.Nat.{_≤_};
-ghost use Rattle.demap_replay.specs.Calls.{leastOf, setOf, newCall, pilotCall, noiseCall, sumCall, countCall, noisePutCall, defaultCall, forceCall, nextCall, nextLeft, pointsCall, pointsLeft, partTold, metricCall, blockCall, labelCall, figureCall};
-
-// Entry p[1] set to p[2], if there is one.
-pub(crate) fn set(p: &[u64; 24], l: &mut [i16])
-    ensures { λ r. ⌜ now (l .exit) ≡ setOf (now (p .entry)) (now (l .entry)) ⌝ }
-{
-    let k = p[1];
-    if k < (l.len() as u64) {
-        l[k as usize] = wire::signed16(p[2]);
-    }
-}
-
-// How many entries are lent, of those that there are.
-fn least(n: u64, all: usize) -> usize
-    ensures { λ r. ⌜ (r ≡ leastOf n all) × (r ≤ all) ⌝ }
-{
-    if n < (all as u64) { n as usize } else { all }
-}
+ghost use Rattle.demap_replay.specs.Calls.{newCall, pilotCall, noiseCall, sumCall, countCall, noisePutCall, defaultCall, forceCall, nextCall, nextLeft, pointsCall, pointsLeft, partTold, metricCall, blockCall, labelCall, figureCall};
 
 fn index(n: u64) -> usize
     ensures { λ r. ⌜ r ≡ n ⌝ }
@@ -110,7 +92,7 @@ pub(crate) fn next(k: Kept, p: &[u64; 24], learned: &mut [i16]) -> Turn
 {
     let f = k.force;
     let l = k.learn;
-    let n = least(p[2], learned.len());
+    let n = fields::least(p[2], learned.len());
     let r = in_force::next(f, l, wire::low32(p[1]), &mut learned[..n]);
     let g = r.in_force;
     kept::turned(kept::with_force(k, g), told::single(r.refusal, 0, 0))
@@ -120,9 +102,9 @@ pub(crate) fn points(k: Kept, p: &[u64; 24], learned: &mut [i16]) -> Turn
     ensures { λ r. ⌜ (r ≡ pointsCall k (now (p .entry)) (now (learned .entry))) × (now (learned .exit) ≡ pointsLeft k (now (p .entry)) (now (learned .entry))) ⌝ }
 {
     let l = k.learn;
-    let n = least(p[2], learned.len());
+    let n = fields::least(p[2], learned.len());
     let r = learn::points(l, index(p[1]), &mut learned[..n]);
-    kept::turned(k, told::single(r.refusal, told::flag(r.learned), 0))
+    kept::turned(k, told::single(r.refusal, fields::flag(r.learned), 0))
 }
 
 // The chosen points: how many numbers, and their digest.
@@ -132,11 +114,11 @@ pub(crate) fn part<'a>(k: Kept, p: &[u64; 24], learned: &'a [i16], nominal: &'a 
     let f = k.force;
     let flags = f.learned;
     let bits = index(p[1]);
-    let a = least(p[2], learned.len());
-    let b = least(p[3], nominal.len());
+    let a = fields::least(p[2], learned.len());
+    let b = fields::least(p[3], nominal.len());
     let refusal = in_force::sets_refusal(a, b, bits);
     let points = in_force::points_in_force(&learned[..a], &nominal[..b], flags, bits);
-    told::single(refusal, points.len() as u64, wire::digest(points))
+    told::single(refusal, points.len() as u64, digest::of_i16(points))
 }
 
 pub(crate) fn metric(p: &[u64; 24]) -> [u64; 24]
@@ -156,9 +138,9 @@ pub(crate) fn block(p: &[u64; 24], learned: &[i16], nominal: &[i16]) -> [u64; 24
     ensures { λ r. ⌜ r ≡ blockCall (now (p .entry)) (now (learned .entry)) (now (nominal .entry)) ⌝ }
 {
     let mut soft = [85i8; 41];
-    let a = least(p[1], learned.len());
-    let b = least(p[2], nominal.len());
-    let c = least(p[3], 41);
+    let a = fields::least(p[1], learned.len());
+    let b = fields::least(p[2], nominal.len());
+    let c = fields::least(p[3], 41);
     let bits = index(p[4]);
     let k = wire::of_bits(p[5]);
     let n = demap::demap_block(&learned[..a], &nominal[..b], bits, k, &mut soft[..c]);

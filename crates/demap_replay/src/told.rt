@@ -6,7 +6,7 @@ use learn::Learn;
 ghost use mathlib.Core.Path.{_≡_};
 ghost use Prim.Native.Nat.{_<_};
 ghost use Rattle.wire.specs.Wire.{bits};
-ghost use Rattle.demap_replay.specs.Told.{told, singleTold, flagOf, figureTold, knownOf, frameOf, forceTold, placeTold, labelTold, softTold};
+ghost use Rattle.demap_replay.specs.Told.{told, singleTold, figureTold, knownOf, frameOf, forceTold, placeTold, labelTold, softTold};
 
 fn told(refusal: u8, v: [u64; 9]) -> [u64; 24]
     ensures { λ r. ⌜ r ≡ told refusal v ⌝ }
@@ -44,12 +44,6 @@ pub(crate) fn single(refusal: u8, v: u64, w: u64) -> [u64; 24]
     ensures { λ r. ⌜ r ≡ singleTold refusal v w ⌝ }
 {
     told(refusal, [v, w, 0, 0, 0, 0, 0, 0, 0])
-}
-
-pub(crate) fn flag(b: bool) -> u64
-    ensures { λ r. ⌜ r ≡ flagOf b ⌝ }
-{
-    if b { 1 } else { 0 }
 }
 
 fn bits8(v: i8) -> u64
@@ -115,11 +109,11 @@ pub(crate) fn force(f: InForce) -> [u64; 24]
     told(
         0,
         [
-            flag(b[0]),
-            flag(b[1]),
-            flag(b[2]),
-            flag(b[3]),
-            flag(b[4]),
+            fields::flag(b[0]),
+            fields::flag(b[1]),
+            fields::flag(b[2]),
+            fields::flag(b[3]),
+            fields::flag(b[4]),
             wire::to_bits(f.n0),
             wire::to_bits(f.k),
             known(s),

@@ -10,11 +10,12 @@ use Rattle.eq.specs.Eq.{newEq, withSums}
 use Rattle.eq.specs.Answers.{restartAnswer, pushAnswer, outputAnswer, openAnswer, trainAnswer, closeAnswer, loadAnswer}
 use Rattle.solve.specs.Answers.{solveAnswer}
 use Rattle.wire.specs.Wire.{bits}
+use Rattle.fields.specs.Fields.{at, at32, signed16, flagOf, sixteensOf}
 use Rattle.eq_calls.specs.declared.kept.Kept.{Kept}
 use Rattle.eq_calls.specs.declared.kept.Turn.{Turn}
 use Rattle.eq_calls.specs.Kept.{withEq, withSolver, turned}
-use Rattle.eq_calls.specs.Given.{at, at32, signed16, sixteensOf, widesOf, linePut, tapsPut, numbersPut, upperPut, rightPut}
-use Rattle.eq_calls.specs.Told.{flagOf, toldOf, solvedTold}
+use Rattle.eq_calls.specs.Given.{widesOf, linePut, tapsPut, numbersPut, upperPut, rightPut}
+use Rattle.eq_calls.specs.Told.{toldOf, solvedTold}
 
 -- a refusal, or 0, and an equaliser
 unfoldable pub plain : Kept → ℕ → Equaliser → Turn

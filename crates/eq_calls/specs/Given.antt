@@ -1,7 +1,5 @@
--- What the numbers of a call hold. A field takes as many low bits of its number as it has; a signed field's are two's complement. A flag is off
--- for 0 and on for any other number. And states with parts replaced.
-use Prim.Native.Nat.{ℕ, _+_, _/_, _%_, _^_}
-use mathlib.Core.Bool.{Bool, not}
+-- What the numbers of a call hold, and states with parts replaced.
+use Prim.Native.Nat.{ℕ, _+_, _/_, _%_}
 use mathlib.Core.List.{List}
 use lib.Dec.{eqb}
 use lib.IntN.{ℤ, pos}
@@ -12,28 +10,9 @@ use Rattle.eq.specs.declared.Equaliser.{Equaliser}
 use Rattle.eq.specs.declared.TapsFrom.{TapsFrom}
 use Rattle.eq.specs.declared.TapsFrom.the-variants.{Identity, Frame}
 use Rattle.sums.specs.declared.Sums.{Sums}
-use Rattle.wire.specs.Wire.{signed}
-
--- number k; as a field of 32 bits, as signed fields of 16 and 64 bits, and as a flag
-abbrev pub at : List ℕ → ℕ → ℕ
-at p k = getD p k 0
-
-abbrev pub at32 : List ℕ → ℕ → ℕ
-at32 p k = at p k % 2 ^ 32
-
-abbrev pub signed16 : List ℕ → ℕ → ℤ
-signed16 p k = signed (2 ^ 15) (at p k % 2 ^ 16)
-
-abbrev pub signed64 : List ℕ → ℕ → ℤ
-signed64 p k = signed (2 ^ 63) (at p k)
-
-abbrev pub on : List ℕ → ℕ → Bool
-on p k = not (eqb (at p k) 0)
+use Rattle.fields.specs.Fields.{at, at32, signed64, on}
 
 -- the 22 numbers from 2 on
-unfoldable pub sixteensOf : List ℕ → List ℤ
-sixteensOf p = firsts (λ k. signed16 p (k + 2)) 22
-
 unfoldable pub widesOf : List ℕ → List ℤ
 widesOf p = firsts (λ k. signed64 p (k + 2)) 22
 

@@ -1,6 +1,5 @@
 -- Answers as 24 numbers, zeros behind them. A negative number is 2^64 more.
 use Prim.Native.Nat.{ℕ, _-_}
-use mathlib.Core.Bool.{Bool}
 use mathlib.Core.List.{List, [], _∷_, _++_}
 use lib.Dec.{eqb, ltb}
 use lib.IntN.{ℤ, pos}
@@ -11,13 +10,11 @@ use Rattle.eq.specs.declared.TapsFrom.{TapsFrom}
 use Rattle.eq.specs.declared.TapsFrom.the-variants.{Identity, Frame}
 use Rattle.sums.specs.declared.Sums.{Sums}
 use Rattle.wire.specs.Wire.{bits}
-use Rattle.wire.specs.Digest.{digestOf}
+use Rattle.digest.specs.Digest.{digestOf}
+use Rattle.fields.specs.Fields.{flagOf}
 use Rattle.eq_calls.specs.declared.kept.Kept.{Kept}
 use Rattle.eq_calls.specs.declared.told.From.{From}
 use Rattle.eq_calls.specs.declared.told.Digests.{Digests}
-
-unfoldable pub flagOf : Bool → ℕ
-flagOf b = if b then 1 else 0
 
 -- the frame of taps: whether there is one, and its number
 unfoldable pub fromShown : TapsFrom → From

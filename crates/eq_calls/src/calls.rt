@@ -107,7 +107,7 @@ pub(crate) fn close(k: Kept) -> Turn
     let r = eq::close(e);
     let m = r.eq;
     let s = r.sums;
-    let f = told::flag(r.ended);
+    let f = fields::flag(r.ended);
     let n = Kept { eq: m, sums: s };
     let t = told::told(n, r.refusal, f, 0, 0);
     kept::turned(n, t)
@@ -117,7 +117,7 @@ pub(crate) fn load(k: Kept, p: &[u64; 24]) -> Turn
     ensures { λ r. ⌜ r ≡ loadCall k (now (p .entry)) ⌝ }
 {
     let e = k.eq;
-    let t = given::sixteens(p);
+    let t = fields::sixteens(p);
     let r = eq::load(e, t, wire::low32(p[1]));
     let n = r.eq;
     plain(k, r.refusal, n)
@@ -127,7 +127,7 @@ pub(crate) fn line(k: Kept, p: &[u64; 24]) -> Turn
     ensures { λ r. ⌜ r ≡ lineCall k (now (p .entry)) ⌝ }
 {
     let e = k.eq;
-    let t = given::sixteens(p);
+    let t = fields::sixteens(p);
     plain(k, 0, given::line_put(e, t))
 }
 
@@ -135,7 +135,7 @@ pub(crate) fn taps(k: Kept, p: &[u64; 24]) -> Turn
     ensures { λ r. ⌜ r ≡ tapsCall k (now (p .entry)) ⌝ }
 {
     let e = k.eq;
-    let t = given::sixteens(p);
+    let t = fields::sixteens(p);
     plain(k, 0, given::taps_put(e, t))
 }
 

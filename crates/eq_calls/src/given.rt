@@ -5,14 +5,7 @@ use sums::Sums;
 ghost use mathlib.Core.Path.{_≡_};
 ghost use Prim.Native.Nat.{_<_};
 ghost use lib.ListN.{length};
-ghost use Rattle.eq_calls.specs.Given.{sixteensOf, widesOf, fromOf, linePut, tapsPut, numbersPut, upperEntry, upperOf, upperPut, rightPut};
-
-// Zeros to fill. Functions, since a contract gives a proof the length and no more.
-fn no_sixteens() -> [i16; 22]
-    ensures { λ r. ⌜ length r ≡ 22 ⌝ }
-{
-    [0; 22]
-}
+ghost use Rattle.eq_calls.specs.Given.{widesOf, fromOf, linePut, tapsPut, numbersPut, upperEntry, upperOf, upperPut, rightPut};
 
 fn no_wides() -> [i64; 22]
     ensures { λ r. ⌜ length r ≡ 22 ⌝ }
@@ -24,19 +17,6 @@ fn no_upper() -> [i64; 132]
     ensures { λ r. ⌜ length r ≡ 132 ⌝ }
 {
     [0; 132]
-}
-
-// The 22 numbers from 2 on.
-pub(crate) fn sixteens(p: &[u64; 24]) -> [i16; 22]
-    ensures { λ r. ⌜ r ≡ sixteensOf (now (p .entry)) ⌝ }
-{
-    let mut t = no_sixteens();
-    let mut k: usize = 0;
-    while k < 22 {
-        t[k] = wire::signed16(p[k + 2]);
-        k += 1;
-    }
-    t
 }
 
 pub(crate) fn wides(p: &[u64; 24]) -> [i64; 22]

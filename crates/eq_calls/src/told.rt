@@ -5,9 +5,7 @@ use sums::Sums;
 ghost use mathlib.Core.Path.{_≡_};
 ghost use Prim.Native.Nat.{_<_};
 ghost use lib.ListN.{length};
-ghost use Rattle.wire.specs.Wire.{bits};
-ghost use Rattle.wire.specs.Digest.{mixedOf, digestOf};
-ghost use Rattle.eq_calls.specs.Told.{flagOf, fromShown, sumsShown, toldOf, bitsAt, solvedAt, solvedTold};
+ghost use Rattle.eq_calls.specs.Told.{fromShown, sumsShown, toldOf, bitsAt, solvedAt, solvedTold};
 
 // The frame of taps: whether there is one, and its number.
 pub struct From {
@@ -23,40 +21,6 @@ pub struct Digests {
     pub right: u64,
 }
 
-pub fn flag(b: bool) -> u64
-    ensures { λ r. ⌜ r ≡ flagOf b ⌝ }
-{
-    if b { 1 } else { 0 }
-}
-
-// ---- wire's digest, of wider numbers
-fn mixed(d: u64, n: u64) -> u64
-    ensures { λ r. ⌜ r ≡ mixedOf d n ⌝ }
-{
-    let low = (d % 0x1_0000_0000) * 2654435761;
-    let high = ((d / 0x1_0000_0000) * 2654435761 % 0x1_0000_0000) * 0x1_0000_0000;
-    std::num::wrapping_add_u64(std::num::wrapping_add_u64(low, high), n)
-}
-
-fn mixed_entry(d: u64, v: i64) -> u64
-    ensures { λ r. ⌜ r ≡ mixedOf d (bits v) ⌝ }
-{
-    mixed(d, wire::to_bits(v))
-}
-
-fn digest(l: &[i64]) -> u64
-    ensures { λ r. ⌜ r ≡ digestOf (now (l .entry)) ⌝ }
-{
-    let mut d: u64 = 0;
-    let mut k: usize = 0;
-    while k < l.len() {
-        d = mixed_entry(d, l[k]);
-        k += 1;
-    }
-    d
-}
-
-// ---- what is kept
 pub fn from_shown(f: TapsFrom) -> From
     ensures { λ r. ⌜ r ≡ fromShown f ⌝ }
 {
@@ -74,8 +38,8 @@ pub fn sums_shown(s: Sums) -> Digests
 {
     let upper = s.r;
     let right = s.p;
-    let a = digest(&upper);
-    let b = digest(&right);
+    let a = digest::of_i64(&upper);
+    let b = digest::of_i64(&right);
     Digests {
         frame: s.frame as u64,
         count: s.count as u64,
@@ -94,12 +58,12 @@ pub(crate) fn told(k: Kept, refusal: u8, x: u64, y: u64, z: u64) -> [u64; 24]
     let taps = e.taps;
     let f = e.from;
     let open = e.sums;
-    let a = wire::digest(&line);
-    let b = wire::digest(&taps);
+    let a = digest::of_i16(&line);
+    let b = digest::of_i16(&taps);
     let c = from_shown(f);
     let d = sums_shown(open);
     let g = sums_shown(s);
-    let o = flag(e.opened);
+    let o = fields::flag(e.opened);
     [
         refusal as u64,
         x,

@@ -4,7 +4,7 @@ use mathlib.Core.List.{List}
 use Rattle.wire.specs.Wire.{numbersOf, packedOf}
 use Rattle.wire.specs.Blocks.{replayed as replayedBy, left}
 use Rattle.eq_calls.specs.declared.kept.Kept.{Kept}
-use Rattle.eq_calls.specs.Given.{at}
+use Rattle.fields.specs.Fields.{at}
 use Rattle.eq_calls.specs.Turns.{turnOf}
 
 -- number 0 tells which call it is

@@ -5,7 +5,7 @@ use Prim.Native.Nat.{ℕ, _≤_}
 use lib.ListN.{length, List·getD-eq-default}
 use Rattle.laws.proofs.Lists.{length-firsts}
 use Rattle.wire.specs.Wire.{byteAt, packedOf, numbersOf}
-use Rattle.eq_calls.specs.Given.{at}
+use Rattle.fields.specs.Fields.{at}
 use Rattle.frame_replay.specs.declared.kept.Kept.{Kept}
 use Rattle.frame_replay.specs.Calls.{plain}
 use Rattle.frame_replay.specs.Replay.{turns, alignedOf, turnOf, answerBytes}

@@ -8,11 +8,13 @@ use Rattle.frame.specs.declared.Aligned.the-variants.{Nothing, Given}
 use Rattle.frame.specs.Align.{newBack}
 use Rattle.frame.specs.Answers.{restartAnswer, pushAnswer}
 use Rattle.wire.specs.Wire.{bits, packedOf}
+use Rattle.fields.specs.Fields.{onesAt}
+use Rattle.frame_wire.specs.Line.{metaAt, lastOf, countPut}
 use Rattle.eq_calls.specs.Turns.{turnOf as eqTurnOf}
 use Rattle.frame_replay.specs.declared.kept.Kept.{Kept}
 use Rattle.frame_replay.specs.declared.kept.Turn.{Turn}
 use Rattle.frame_replay.specs.Kept.{withBack, withEq, withLine, withWords, turned}
-use Rattle.frame_replay.specs.Given.{metaAt, correctedOf, onesAt, lastOf, countPut}
+use Rattle.frame_replay.specs.Given.{correctedOf}
 use Rattle.frame_replay.specs.Told.{toldOf}
 
 -- what is told where there is no symbol: zeros

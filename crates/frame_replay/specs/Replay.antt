@@ -6,7 +6,7 @@ use lib.ListN.{getD}
 use Rattle.laws.specs.Choice.{if_then_else_}
 use Rattle.wire.specs.Wire.{numbersOf, packedOf}
 use Rattle.wire.specs.Blocks.{replayed as replayedBy, left}
-use Rattle.eq_calls.specs.Given.{at}
+use Rattle.fields.specs.Fields.{at}
 use Rattle.frame_replay.specs.declared.kept.Kept.{Kept}
 use Rattle.frame_replay.specs.declared.kept.Turn.{Turn}
 use Rattle.frame_replay.specs.Calls.{plain, eqCall, newCall, restartCall, pushCall, wordsCall, moveCall, lineCall}

@@ -3,19 +3,13 @@ use Prim.Native.Nat.{ℕ}
 use mathlib.Core.List.{List, [], _∷_}
 use Rattle.eq.specs.declared.Equaliser.{Equaliser}
 use Rattle.frame_line.specs.declared.Meta.{Meta}
-use Rattle.frame_line.specs.declared.LastAt.{LastAt}
-use Rattle.frame_line.specs.declared.LastAt.the-variants.{Never, At}
-use Rattle.wire.specs.Digest.{digestOf}
+use Rattle.digest.specs.Digest.{digestOf}
+use Rattle.fields.specs.Fields.{flagOf}
 use Rattle.slot_wire.specs.Slots.{wordNumber, slotShown}
-use Rattle.eq_calls.specs.Told.{flagOf, fromShown, sumsShown}
+use Rattle.frame_wire.specs.Line.{lastShown}
+use Rattle.eq_calls.specs.Told.{fromShown, sumsShown}
 use Rattle.frame_replay.specs.declared.kept.Kept.{Kept}
-use Rattle.frame_replay.specs.declared.told.LastShown.{LastShown}
 use Rattle.frame_replay.specs.declared.told.EqShown.{EqShown}
-
--- whether there is a last position, and that position
-unfoldable pub lastShown : LastAt → LastShown
-lastShown Never = record { known = 0; at = 0 }
-lastShown (At a) = record { known = 1; at = a }
 
 unfoldable pub eqShown : Equaliser → EqShown
 eqShown e =

@@ -93,8 +93,8 @@ pub(crate) fn words(k: Kept, p: &[u64; 24]) -> Turn
     ensures { λ r. ⌜ r ≡ wordsCall k (now (p .entry)) ⌝ }
 {
     let bytes = wire::packed(p);
-    let f = given::ones_at(&bytes, 8);
-    let s = given::ones_at(&bytes, 56);
+    let f = fields::ranged::ones_at(&bytes, 8);
+    let s = fields::ranged::ones_at(&bytes, 56);
     let n = kept::with_words(k, f, s);
     plain(n, 0)
 }
@@ -107,7 +107,7 @@ pub(crate) fn move_up(k: Kept, p: &[u64; 24]) -> Turn
     let w = b.metas;
     let last = b.last;
     let oldest = w.first;
-    let m = given::meta_at(p, 1);
+    let m = frame_wire::ranged::meta_at(p, 1);
     let n = kept::with_line(k, frame_line::ranged::move_up(w, m), last);
     let t = told::told(n, 0, 1, oldest, 0, 0);
     kept::turned(n, t)
@@ -119,7 +119,7 @@ pub(crate) fn line(k: Kept, p: &[u64; 24]) -> Turn
 {
     let b = k.back;
     let w = b.metas;
-    let last = given::last_at(p);
-    let n = kept::with_line(k, given::count_put(w, p), last);
+    let last = frame_wire::last_at(p);
+    let n = kept::with_line(k, frame_wire::count_put(w, p), last);
     plain(n, 0)
 }

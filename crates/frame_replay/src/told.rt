@@ -3,25 +3,9 @@ use crate::kept::Kept;
 use eq::Equaliser;
 use eq_calls::told::Digests;
 use eq_calls::told::From;
-use frame_line::LastAt;
 use frame_line::Meta;
 ghost use mathlib.Core.Path.{_≡_};
-ghost use Rattle.frame_replay.specs.Told.{lastShown, eqShown, toldOf};
-
-// Whether there is a last position, and that position.
-pub struct LastShown {
-    pub known: u64,
-    pub at: u64,
-}
-
-fn last_shown(l: LastAt) -> LastShown
-    ensures { λ r. ⌜ r ≡ lastShown l ⌝ }
-{
-    match l {
-        LastAt::Never => LastShown { known: 0, at: 0 },
-        LastAt::At(a) => LastShown { known: 1, at: a },
-    }
-}
+ghost use Rattle.frame_replay.specs.Told.{eqShown, toldOf};
 
 // An equaliser: digests of line and taps, the fill, the taps' frame, whether sums are open, and these.
 pub struct EqShown {
@@ -40,10 +24,10 @@ fn eq_shown(e: Equaliser) -> EqShown
     let taps = e.taps;
     let from = e.from;
     let sums = e.sums;
-    let a = wire::digest(&line);
-    let b = wire::digest(&taps);
+    let a = digest::of_i16(&line);
+    let b = digest::of_i16(&taps);
     let c = eq_calls::told::from_shown(from);
-    let o = eq_calls::told::flag(e.opened);
+    let o = fields::flag(e.opened);
     let d = eq_calls::told::sums_shown(sums);
     EqShown {
         line: a,
@@ -65,7 +49,7 @@ pub(crate) fn told(k: Kept, refusal: u8, given: u64, m: Meta, i: u64, q: u64) ->
     let word = m.word;
     let slot = m.slot;
     let s = slot_wire::slot_shown(slot);
-    let l = last_shown(last);
+    let l = frame_wire::last_shown(last);
     let x = eq_shown(e);
     [
         refusal as u64,

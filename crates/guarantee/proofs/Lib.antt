@@ -21,3 +21,4 @@ pub mod Outs
 pub mod Softs
 pub mod Theorems
 pub mod Feeds
+pub mod Items

@@ -3,3 +3,4 @@ pub mod Calls
 pub mod History
 pub mod Demand
 pub mod Feeds
+pub mod Items

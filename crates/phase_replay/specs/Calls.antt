@@ -1,28 +1,17 @@
 -- What each call answers, by the definitions of carrier and phase.
 use Prim.Native.Nat.{ℕ}
-use mathlib.Core.Bool.{Bool}
 use mathlib.Core.List.{List, _++_}
-use lib.Dec.{ltb}
 use lib.IntN.{ℤ}
-use lib.ListN.{length, set, take, drop}
-use Rattle.laws.specs.Choice.{if_then_else_}
+use lib.ListN.{take, drop}
 use Rattle.carrier.specs.Carrier.{startedNco}
 use Rattle.carrier.specs.Answers.{rotateAnswer, headAnswer as hearAnswer, restartAnswer as ncoRestartAnswer}
 use Rattle.phase.specs.Answers.{gainAnswer, restartAnswer, pushAnswer, pushStore, headAnswer, correctAnswer}
 use Rattle.wire.specs.Wire.{bits}
-use Rattle.phase_replay.specs.Given.{at, signed8, signed16, signed32, signed64, ncoOf, headOf, stateOf, wholeOf}
-use Rattle.phase_replay.specs.Told.{ncoTold, stateTold, dueTold, nextTold, wholeTold, answeredTold}
-
--- ---- table and store: number 1 names an entry, number 2 is its value
-unfoldable pub setOf : List ℕ → List ℤ → List ℤ
-setOf p l = if ltb (at p 1) (length l) then set l (at p 1) (signed16 p 2) else l
-
--- the smaller
-unfoldable pub leastOf : ℕ → ℕ → ℕ
-leastOf n all = if ltb n all then n else all
-
-unfoldable pub flagOf : Bool → ℕ
-flagOf b = if b then 1 else 0
+use Rattle.fields.specs.Fields.{at, signed8, signed16, signed32, signed64, flagOf}
+use Rattle.phase_wire.specs.Given.{ncoOf, headOf, phaseOf}
+use Rattle.phase_wire.specs.Told.{ncoTold, phaseTold}
+use Rattle.phase_replay.specs.Given.{wholeOf}
+use Rattle.phase_replay.specs.Told.{dueTold, nextTold, wholeTold, answeredTold}
 
 -- ---- the carrier
 unfoldable pub newCall : List ℕ → List ℕ
@@ -46,24 +35,24 @@ unfoldable pub gainCall : List ℕ → List ℕ
 gainCall p = wholeTold (gainAnswer (signed64 p 1))
 
 unfoldable pub restartCall : List ℕ → List ℕ
-restartCall p = let r = restartAnswer (stateOf p) in stateTold (r .refusal) (r .phase)
+restartCall p = let r = restartAnswer (phaseOf p) in phaseTold (r .refusal) (r .phase)
 
 -- the symbol of numbers 13 and 14, with as many entries of the store as number 15 says; and the store afterwards
 unfoldable pub pushCall : List ℕ → List ℤ → List ℕ
-pushCall p store = let r = pushAnswer (stateOf p) (take (at p 15) store) in stateTold (r .refusal) (r .phase)
+pushCall p store = let r = pushAnswer (phaseOf p) (take (at p 15) store) in phaseTold (r .refusal) (r .phase)
 
 unfoldable pub pushLeft : List ℕ → List ℤ → List ℤ
-pushLeft p store = pushStore (stateOf p) (signed16 p 13) (signed16 p 14) (take (at p 15) store) ++ drop (at p 15) store
+pushLeft p store = pushStore (phaseOf p) (signed16 p 13) (signed16 p 14) (take (at p 15) store) ++ drop (at p 15) store
 
 -- the head of numbers 13 to 22: the state afterwards, the slot that is due, and that slot's next head
 unfoldable pub headCall : List ℕ → List ℕ
-headCall p = let r = headAnswer (stateOf p) (headOf p 13) in stateTold (r .refusal) (r .phase)
+headCall p = let r = headAnswer (phaseOf p) (headOf p 13) in phaseTold (r .refusal) (r .phase)
 
 unfoldable pub dueCall : List ℕ → List ℕ
-dueCall p = let r = headAnswer (stateOf p) (headOf p 13) in dueTold (r .refusal) (r .due)
+dueCall p = let r = headAnswer (phaseOf p) (headOf p 13) in dueTold (r .refusal) (r .due)
 
 unfoldable pub nextCall : List ℕ → List ℕ
-nextCall p = let r = headAnswer (stateOf p) (headOf p 13) in nextTold (r .refusal) (r .due)
+nextCall p = let r = headAnswer (phaseOf p) (headOf p 13) in nextTold (r .refusal) (r .due)
 
 -- symbol number 16, with as many entries of table and store as numbers 17 and 18 say
 unfoldable pub correctCall : List ℕ → List ℤ → List ℤ → List ℕ

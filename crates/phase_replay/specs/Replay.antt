@@ -8,37 +8,37 @@ use lib.ListN.{getD}
 use Rattle.laws.specs.Choice.{if_then_else_}
 use Rattle.phase.specs.declared.SlotPhase.the-variants.{Idle}
 use Rattle.wire.specs.Wire.{numbersOf, packedOf}
-use Rattle.wire.specs.Digest.{digestOf}
+use Rattle.digest.specs.Digest.{digestOf}
 use Rattle.wire.specs.Blocks.{replayed as replayedBy, left}
-use Rattle.phase_replay.specs.Given.{at}
-use Rattle.phase_replay.specs.Told.{singleTold, stateTold}
-use Rattle.phase_replay.specs.Calls.{setOf, newCall, rotateCall, hearCall, ncoRestartCall, gainCall, restartCall, pushCall, pushLeft, headCall, dueCall, nextCall, correctCall}
+use Rattle.fields.specs.Fields.{at, setOf, fourTold}
+use Rattle.phase_wire.specs.Told.{phaseTold}
+use Rattle.phase_replay.specs.Calls.{newCall, rotateCall, hearCall, ncoRestartCall, gainCall, restartCall, pushCall, pushLeft, headCall, dueCall, nextCall, correctCall}
 
 -- ---- one call: number 0 tells which
 -- the answers in the order of the calls' numbers
 abbrev pub answers : List ℕ → List ℤ → List ℤ → List (List ℕ)
 answers p table store =
-    singleTold 0 (digestOf table)
-    ∷ singleTold 0 (digestOf store)
+    fourTold 0 (digestOf table) 0 0
+    ∷ fourTold 0 (digestOf store) 0 0
     ∷ newCall p
     ∷ rotateCall p table
     ∷ hearCall p
     ∷ ncoRestartCall p
     ∷ gainCall p
-    ∷ stateTold 0 Idle
+    ∷ phaseTold 0 Idle
     ∷ restartCall p
     ∷ headCall p
     ∷ dueCall p
     ∷ nextCall p
     ∷ correctCall p table store
     ∷ pushCall p store
-    ∷ singleTold 0 0
-    ∷ singleTold 0 0
+    ∷ fourTold 0 0 0 0
+    ∷ fourTold 0 0 0 0
     ∷ []
 
 -- the answer to call op, or refusal 255 where there is no such call
 unfoldable pub answerOf : ℕ → List ℕ → List ℤ → List ℤ → List ℕ
-answerOf op p table store = getD (answers p table store) op (singleTold 255 0)
+answerOf op p table store = getD (answers p table store) op (fourTold 255 0 0 0)
 
 -- call 13 pushes a symbol, call 14 sets an entry of the table, call 15 one of the store
 unfoldable pub tableOf : ℕ → List ℕ → List ℤ → List ℤ

@@ -1,11 +1,9 @@
 // One call: its bytes, its answer, and that answer's bytes.
 use crate::calls;
-use crate::told;
 ghost use mathlib.Core.Path.{_≡_};
 ghost use Prim.Native.Nat.{_+_, _≤_};
 ghost use lib.ListN.{length, drop};
 ghost use lib.Seq.{paste};
-ghost use Rattle.phase_replay.specs.Given.{at};
 ghost use Rattle.phase_replay.specs.Replay.{answerOf, tableOf, storeOf, answerBytes, lent, after, Reads};
 
 // The answer to a call that writes nothing; 255 is no refusal of document 01.
@@ -14,20 +12,20 @@ fn answer(op: u64, p: &[u64; 24], table: &[i16], store: &[i16]) -> [u64; 24]
     ensures { λ r. ⌜ r ≡ answerOf op (now (p .entry)) (now (table .entry)) (now (store .entry)) ⌝ }
 {
     match op {
-        0 => told::single(0, wire::digest(table)),
-        1 => told::single(0, wire::digest(store)),
+        0 => fields::four(0, digest::of_i16(table), 0, 0),
+        1 => fields::four(0, digest::of_i16(store), 0, 0),
         2 => calls::nco_new(p),
         3 => calls::rotate(p, table),
         4 => calls::hear(p),
         5 => calls::nco_restart(p),
         6 => calls::gain(p),
-        7 => told::state(0, phase::new()),
+        7 => phase_wire::told::phase(0, phase::new()),
         8 => calls::restart(p),
         9 => calls::head(p),
         10 => calls::due(p),
         11 => calls::next(p),
         12 => calls::correct(p, table, store),
-        _ => told::single(255, 0),
+        _ => fields::four(255, 0, 0, 0),
     }
 }
 
@@ -40,12 +38,12 @@ fn answered(op: u64, p: &[u64; 24], table: &mut [i16], store: &mut [i16]) -> [u6
     match op {
         13 => calls::push(p, store),
         14 => {
-            calls::set(p, table);
-            told::single(0, 0)
+            fields::set(p, table);
+            fields::four(0, 0, 0, 0)
         }
         15 => {
-            calls::set(p, store);
-            told::single(0, 0)
+            fields::set(p, store);
+            fields::four(0, 0, 0, 0)
         }
         _ => answer(op, p, table, store),
     }

@@ -6,22 +6,12 @@ use lib.ListN.{getD}
 use Rattle.laws.specs.Choice.{if_then_else_}
 use Rattle.wire.specs.Wire.{numbersOf, packedOf}
 use Rattle.wire.specs.Blocks.{replayed as replayedBy, left}
-use Rattle.eq_calls.specs.Given.{at}
-use Rattle.receiver_replay.specs.declared.kept.Kept.{Kept}
-use Rattle.receiver_replay.specs.declared.kept.Turn.{Turn}
-use Rattle.receiver_replay.specs.Calls.{All, Moved, moved, unmoved, plain, eqCall, wordsCall, pointsCall, tapsCall, openCall, endCall, eventCall, newTurn, newLeft, restartTurn, restartLeft, lookTurn, setOf, playCall, feedCall}
+use Rattle.fields.specs.Fields.{at, setOf, setNaturalOf}
+use Rattle.receiver_calls.specs.Calls.{plain}
+use Rattle.receiver_calls.specs.Turns.{turnOf as freeTurnOf}
+use Rattle.receiver_replay.specs.Calls.{All, Moved, moved, unmoved, newTurn, newLeft, restartTurn, restartLeft, lookTurn, playCall, feedCall}
 
--- ---- one call: number 0 tells which. In the order of the calls' numbers: those that take no store from 16 on, the others from 64 on.
--- Refusal 255 where there is no such call
-abbrev pub plains : List ℕ → Kept → List Turn
-plains p k = wordsCall k p ∷ pointsCall k p ∷ tapsCall k p ∷ openCall k p ∷ endCall k ∷ eventCall k p ∷ []
-
-unfoldable pub plainOf : ℕ → List ℕ → Kept → Turn
-plainOf n p k = getD (plains p k) n (plain k 255)
-
-unfoldable pub freeOf : ℕ → List ℕ → Kept → Turn
-freeOf op p k = if ltb op 16 then eqCall op k p else plainOf (op - 16) p k
-
+-- ---- one call: number 0 tells which. Those that take stores, in the order of their numbers, from 64 on; refusal 255 where there is no such call
 abbrev pub takers : List ℕ → All → List Moved
 takers p a =
     moved (newTurn (a .kept) p (a .acc)) (a .table) (newLeft p (a .acc)) (a .store) (a .soft)
@@ -30,13 +20,14 @@ takers p a =
     ∷ moved (plain (a .kept) 0) (setOf p (a .table)) (a .acc) (a .store) (a .soft)
     ∷ playCall p a
     ∷ feedCall p a
+    ∷ moved (plain (a .kept) 0) (a .table) (setNaturalOf p (a .acc)) (a .store) (a .soft)
     ∷ []
 
 unfoldable pub storesOf : ℕ → List ℕ → All → Moved
 storesOf n p a = getD (takers p a) n (unmoved a (plain (a .kept) 255))
 
 unfoldable pub turnOf : ℕ → List ℕ → All → Moved
-turnOf op p a = if ltb op 64 then unmoved a (freeOf op p (a .kept)) else storesOf (op - 64) p a
+turnOf op p a = if ltb op 64 then unmoved a (freeTurnOf op p (a .kept)) else storesOf (op - 64) p a
 
 -- ---- calls as bytes
 unfoldable pub answerBytes : All → List ℕ → List ℕ

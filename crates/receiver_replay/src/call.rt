@@ -1,40 +1,15 @@
 // One call: its bytes, its answer, and that answer's bytes.
-use crate::calls;
-use crate::kept::Kept;
-use crate::kept::Turn;
 use crate::stores;
+use receiver_calls::kept::Kept;
+use receiver_calls::kept::Turn;
 ghost use mathlib.Core.Path.{_≡_};
 ghost use Prim.Native.Nat.{_+_, _≤_};
 ghost use lib.ListN.{length, drop};
 ghost use lib.Seq.{paste};
 ghost use Rattle.receiver_replay.specs.Calls.{all, moved};
-ghost use Rattle.receiver_replay.specs.Replay.{plainOf, freeOf, storesOf, turnOf, answerBytes, after};
+ghost use Rattle.receiver_replay.specs.Replay.{storesOf, turnOf, answerBytes, after};
 
-// A call that takes no store; 255 is no refusal of document 01.
-fn free(n: u64, k: Kept, p: &[u64; 24]) -> Turn
-    ensures { λ r. ⌜ r ≡ plainOf n (now (p .entry)) k ⌝ }
-{
-    match n {
-        0 => calls::words(k, p),
-        1 => calls::points(k, p),
-        2 => calls::taps(k, p),
-        3 => calls::open(k, p),
-        4 => calls::end(k),
-        5 => calls::event(k, p),
-        _ => calls::plain(k, 255),
-    }
-}
-
-fn without(op: u64, k: Kept, p: &[u64; 24]) -> Turn
-    ensures { λ r. ⌜ r ≡ freeOf op (now (p .entry)) k ⌝ }
-{
-    if op < 16 {
-        calls::on_eq(op, k, p)
-    } else {
-        free(op - 16, k, p)
-    }
-}
-
+// 255 is no refusal of document 01.
 fn with(
     n: u64,
     k: Kept,
@@ -51,12 +26,16 @@ fn with(
         1 => stores::restart(k, p, acc),
         2 => stores::look(k, acc, store, soft),
         3 => {
-            stores::set(p, table);
-            calls::plain(k, 0)
+            fields::set(p, table);
+            receiver_calls::plain(k, 0)
         }
         4 => stores::play(k, p, table, acc, store, soft),
         5 => stores::feed(k, p, table, acc, store, soft),
-        _ => calls::plain(k, 255),
+        6 => {
+            fields::set_natural(p, acc);
+            receiver_calls::plain(k, 0)
+        }
+        _ => receiver_calls::plain(k, 255),
     }
 }
 
@@ -72,7 +51,7 @@ fn turn(
     ensures { λ r. ⌜ moved r (now (table .exit)) (now (acc .exit)) (now (store .exit)) (now (soft .exit)) ≡ turnOf op (now (p .entry)) (all k (now (table .entry)) (now (acc .entry)) (now (store .entry)) (now (soft .entry))) ⌝ }
 {
     if op < 64 {
-        without(op, k, p)
+        receiver_calls::turn(op, k, p)
     } else {
         with(op - 64, k, p, table, acc, store, soft)
     }

@@ -3,15 +3,10 @@
 // the last play, sums, the carrier table and the stores, each with a few entries more than a call takes, so that too many can be lent.
 // Input that ends within a call is told on standard error: a Rattle program has no exit status to tell it by.
 mod call;
-mod calls;
-mod digest;
 mod given;
-mod kept;
-mod play;
 mod stores;
-mod told;
 
-use kept::Kept;
+use receiver_calls::kept::Kept;
 use sync_step::Event;
 use sync_step::Events;
 ghost use mathlib.Core.Path.{_≡_};
@@ -126,7 +121,7 @@ fn main() {
     let mut table = [0i16; 1025];
     let mut acc = [0u32; 9297];
     let mut store = [0i16; 18593];
-    let mut soft = [85i8; 44889];
+    let mut soft = [85i8; 50000];
     let a = receiver::new(0, 0, &mut acc);
     let r = a.receiver;
     let s = sums::new(0);

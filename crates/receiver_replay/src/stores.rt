@@ -1,58 +1,35 @@
 // What each call that takes stores answers and leaves.
-use crate::calls;
-use crate::digest;
 use crate::given;
-use crate::kept;
-use crate::kept::Kept;
-use crate::kept::Turn;
-use crate::play;
-use crate::play::Played;
-use crate::told;
+use receiver_calls::kept;
+use receiver_calls::kept::Kept;
+use receiver_calls::kept::Turn;
 ghost use mathlib.Core.Path.{_≡_};
-ghost use Rattle.receiver_replay.specs.Calls.{newTurn, newLeft, restartTurn, restartLeft, lookTurn, setOf, playedTurn, all, moved, playCall, feedCall};
+ghost use Rattle.receiver_replay.specs.Calls.{newTurn, newLeft, restartTurn, restartLeft, lookTurn, all, moved, playCall, feedCall};
 
 pub(crate) fn new(k: Kept, p: &[u64; 24], acc: &mut [u32]) -> Turn
     ensures { λ r. ⌜ (r ≡ newTurn k (now (p .entry)) (now (acc .entry))) × (now (acc .exit) ≡ newLeft (now (p .entry)) (now (acc .entry))) ⌝ }
 {
-    let n = given::least(p[3], acc.len());
+    let n = fields::least(p[3], acc.len());
     let a = receiver::new(p[1], wire::signed32(p[2]), &mut acc[..n]);
-    calls::answered(k, a)
+    receiver_calls::answered(k, a)
 }
 
 pub(crate) fn restart(k: Kept, p: &[u64; 24], acc: &mut [u32]) -> Turn
     ensures { λ r. ⌜ (r ≡ restartTurn k (now (p .entry)) (now (acc .entry))) × (now (acc .exit) ≡ restartLeft k (now (p .entry)) (now (acc .entry))) ⌝ }
 {
-    let n = given::least(p[3], acc.len());
+    let n = fields::least(p[3], acc.len());
     let r = k.receiver;
     let a = receiver::restart(r, p[1], &mut acc[..n]);
-    calls::answered(k, a)
+    receiver_calls::answered(k, a)
 }
 
 pub(crate) fn look(k: Kept, acc: &[u32], store: &[i16], soft: &[i8]) -> Turn
     ensures { λ r. ⌜ r ≡ lookTurn k (now (acc .entry)) (now (store .entry)) (now (soft .entry)) ⌝ }
 {
-    let a = digest::whole(acc);
-    let b = wire::digest(store);
-    let c = digest::bytes(soft);
-    kept::turned(k, told::four(0, a, b, c))
-}
-
-// Entry p[1] set to p[2], if there is one.
-pub(crate) fn set(p: &[u64; 24], l: &mut [i16])
-    ensures { λ r. ⌜ now (l .exit) ≡ setOf (now (p .entry)) (now (l .entry)) ⌝ }
-{
-    let k = p[1];
-    if k < (l.len() as u64) {
-        l[k as usize] = wire::signed16(p[2]);
-    }
-}
-
-fn told(k: Kept, a: Played) -> Turn
-    ensures { λ r. ⌜ r ≡ playedTurn k a ⌝ }
-{
-    let r = a.receiver;
-    let e = a.events;
-    kept::turned(kept::with_played(k, r, e), told::played(a))
+    let a = digest::of_u32(acc);
+    let b = digest::of_i16(store);
+    let c = digest::of_i8(soft);
+    kept::turned(k, fields::four(0, a, b, c))
 }
 
 pub(crate) fn play(
@@ -67,15 +44,15 @@ pub(crate) fn play(
 {
     let bytes = wire::packed(p);
     let x = given::symbols(&bytes);
-    let n = given::least(p[1], 72);
-    let t = given::least(p[2], table.len());
-    let a = given::least(p[3], acc.len());
-    let b = given::least(p[4], store.len());
-    let c = given::least(p[5], soft.len());
+    let n = fields::least(p[1], 72);
+    let t = fields::least(p[2], table.len());
+    let a = fields::least(p[3], acc.len());
+    let b = fields::least(p[4], store.len());
+    let c = fields::least(p[5], soft.len());
     let r = k.receiver;
     let f = k.f;
     let s = k.s;
-    let d = play::play(
+    let d = receiver_play::ranged::play(
         r,
         n,
         &x,
@@ -86,10 +63,10 @@ pub(crate) fn play(
         &mut store[..b],
         &mut soft[..c],
     );
-    told(k, d)
+    receiver_calls::played(k, d)
 }
 
-// The same by `feed`.
+// So many bytes of symbols by `feed`.
 pub(crate) fn feed(
     k: Kept,
     p: &[u64; 24],
@@ -102,16 +79,15 @@ pub(crate) fn feed(
 {
     let bytes = wire::packed(p);
     let x = given::symbols(&bytes);
-    let n = given::least(p[1], 72);
-    let m = 2 * n;
-    let t = given::least(p[2], table.len());
-    let a = given::least(p[3], acc.len());
-    let b = given::least(p[4], store.len());
-    let c = given::least(p[5], soft.len());
+    let m = fields::least(p[1], 144);
+    let t = fields::least(p[2], table.len());
+    let a = fields::least(p[3], acc.len());
+    let b = fields::least(p[4], store.len());
+    let c = fields::least(p[5], soft.len());
     let r = k.receiver;
     let f = k.f;
     let s = k.s;
-    let d = play::feed(
+    let d = receiver_play::feed(
         r,
         &x[..m],
         f,
@@ -121,5 +97,5 @@ pub(crate) fn feed(
         &mut store[..b],
         &mut soft[..c],
     );
-    told(k, d)
+    receiver_calls::played(k, d)
 }

@@ -8,7 +8,7 @@ use lib.IntN.{ℤ, pos, _-ℤ_}
 use lib.ListN.{length, replicate}
 use Rattle.laws.specs.Choice.{if_then_else_, minus}
 use Rattle.wire.specs.Wire.{bits}
-use Rattle.wire.specs.Digest.{mixedOf}
+use Rattle.digest.specs.Digest.{mixedOf}
 use Rattle.angles.specs.declared.Symbol.{Symbol}
 use Rattle.sync_heads.specs.declared.Word.{Word}
 use Rattle.sync_heads.specs.declared.Word.the-variants.{Ssync, Fsync, NotFsync}

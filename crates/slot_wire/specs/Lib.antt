@@ -1,2 +1,2 @@
--- Words and slots as numbers.
+-- Words, slots and correlations as numbers.
 pub mod Slots

@@ -1,4 +1,4 @@
-// Words and slots as numbers of calls and answers, for the replay programs.
+// Words, slots and correlations as numbers of calls and answers, for the replay programs.
 pub mod ranged;
 
 use sync_heads::Slot;

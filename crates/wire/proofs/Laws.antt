@@ -1,21 +1,17 @@
 -- Laws of the definitions of wire. Assumes nothing.
 use mathlib.Core.Bool.{true, false}
-use mathlib.Core.List.{List}
-use mathlib.Core.Path.{_≡_, refl, ap, _∙_}
-use Prim.Native.Nat.{ℕ, zero, suc, _+_, _-_, _*_, _/_, _%_, _^_, _≤_, _<_}
+use mathlib.Core.Path.{_≡_, refl, ap}
+use Prim.Native.Nat.{ℕ, zero, suc, _-_, _*_, _^_, _≤_, _<_}
 use native.Mathlib.Nat.{zero-add}
-use native.Mathlib.Numerals.{add-one}
 use native.Mathlib.Omega.{arith}
 use borrow.Author.Tests.{lt-ltb, le-ltb, ltb-true}
 use lib.IntN.{ℤ, pos, negsuc, natAbs, _-ℤ_}
-use lib.ListN.{getD}
 use lib.Signed.{mag, ltZ}
 use mir.Facts.{toZ-pos}
 use mir.Syntax.{Width}
 use mir.Val.{hbits, toZ}
 use Rattle.laws.proofs.Tests.{never}
 use Rattle.laws.specs.Choice.{if-yes, if-no}
-use Rattle.wire.specs.Digest.{mixedOf, digestTo}
 use Rattle.wire.specs.Wire.{signed, bits}
 
 -- ---- a number that a `match` on 0, 1, .. k - 1 leaves
@@ -53,24 +49,3 @@ pub bits-neg : (z : ℤ) → ltZ z (pos 0) ≡ true → 2 ^ 64 - 1 - mag z ≡ b
 unfolding bits
 bits-neg (pos n) t = absurd (omega (arith, ltb-true n 0 t))
 bits-neg (negsuc n) t = refl
-
--- ---- the digest: the product by halves
-wrapped : (a n q : ℕ) → (a % 2 ^ 64 + n) % 2 ^ 64 ≡ (a + n + 2 ^ 64 * q) % 2 ^ 64
-wrapped a n q = omega arith
-
-pub halves : (d n : ℕ) → ((d % 2 ^ 32 * 2654435761 + d / 2 ^ 32 * 2654435761 % 2 ^ 32 * 2 ^ 32) % 2 ^ 64 + n) % 2 ^ 64 ≡ mixedOf d n
-unfolding mixedOf
-halves d n =
-    let h : ℕ = d / 2 ^ 32 in
-    let a : ℕ = d % 2 ^ 32 * 2654435761 + h * 2654435761 % 2 ^ 32 * 2 ^ 32 in
-    let e : a + n + 2 ^ 64 * (h * 2654435761 / 2 ^ 32) ≡ 2654435761 * d + n = omega arith in
-    wrapped a n (h * 2654435761 / 2 ^ 32) ∙ ap (λ (x : ℕ). x % 2 ^ 64) e
-
--- one more entry
-pub digest-more : (l : List ℤ) (k d : ℕ) → d ≡ digestTo l k → mixedOf d (bits (getD l k (pos 0))) ≡ digestTo l (k + 1)
-unfolding digestTo
-digest-more l k d e = rw (e, add-one k)
-
-pub digest-none : (l : List ℤ) → 0 ≡ digestTo l 0
-unfolding digestTo
-digest-none l = refl

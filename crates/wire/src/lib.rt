@@ -6,7 +6,6 @@ ghost use mathlib.Core.List.{_++_};
 ghost use Prim.Native.Nat.{_+_, _*_, _<_, _%_, _^_};
 ghost use lib.ListN.{length};
 ghost use Rattle.wire.specs.Wire.{signed, bits, byteOf, bytesOf, packedOf, entriesOf};
-ghost use Rattle.wire.specs.Digest.{mixedOf, digestOf};
 
 // ---- numbers of 64 bits, taken to the width of a field by their low bits
 pub fn low32(u: u64) -> u32
@@ -207,34 +206,4 @@ pub fn table(s: &[u8; 2048]) -> [i16; 1024]
         i += 1;
     }
     t
-}
-
-// ---- the digest of a lent list
-// One more number. The product is made of two halves, since a product may not pass 64 bits.
-fn mixed(d: u64, n: u64) -> u64
-    ensures { λ r. ⌜ r ≡ mixedOf d n ⌝ }
-{
-    let low = (d % 0x1_0000_0000) * 2654435761;
-    let high = ((d / 0x1_0000_0000) * 2654435761 % 0x1_0000_0000) * 0x1_0000_0000;
-    std::num::wrapping_add_u64(std::num::wrapping_add_u64(low, high), n)
-}
-
-// A function, since a parameter has a range, which an element of a lent slice has not.
-fn mixed_entry(d: u64, v: i16) -> u64
-    ensures { λ r. ⌜ r ≡ mixedOf d (bits v) ⌝ }
-{
-    mixed(d, bits16(v))
-}
-
-// The digest of all entries.
-pub fn digest(l: &[i16]) -> u64
-    ensures { λ r. ⌜ r ≡ digestOf (now (l .entry)) ⌝ }
-{
-    let mut d: u64 = 0;
-    let mut k: usize = 0;
-    while k < l.len() {
-        d = mixed_entry(d, l[k]);
-        k += 1;
-    }
-    d
 }

@@ -1,5 +1,6 @@
 -- `demap_replay::call::on_slices` meets its contract. Assumes nothing.
-use Rattle.demap_replay.proofs.Laws.{slices-none, past-from}
+use Rattle.fields.proofs.Laws.{past-from}
+use Rattle.demap_replay.proofs.Laws.{slices-none}
 use Rattle.demap_replay.specs.Replay.{desk, turnOf, learnedOf, nominalOf}
 use borrow.Author.Needs.{needs}
 use Rattle.demap_replay.proofs.call.on_slices.Statement.{statement}

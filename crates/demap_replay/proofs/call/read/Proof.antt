@@ -6,14 +6,14 @@ use mathlib.Core.Path.{_∙_}
 use Rattle.demap_replay.proofs.call.read.Statement.{statement}
 use Rattle.demap_replay.proofs.call.read.Tie as tie
 
-digest-requires : tie.Need-digest-requires
-digest-requires c κs = search needs
+of-i16-requires : tie.Need-of-i16-requires
+of-i16-requires c κs = search needs
 
 single-requires : tie.Need-single-requires
 single-requires c κs = search needs
 
-digest-requires-2 : tie.Need-digest-requires-2
-digest-requires-2 c κs = search needs
+of-i16-requires-2 : tie.Need-of-i16-requires-2
+of-i16-requires-2 c κs = search needs
 
 single-requires-2 : tie.Need-single-requires-2
 single-requires-2 c κs = search needs
@@ -41,11 +41,11 @@ single-requires-3 c κs = search needs
 
 returns : tie.Need-returns
 unfolding readOf
-returns c = rw (c .before .before .match .keys1, c .single .ensures, c .before .digest .ensures)
+returns c = rw (c .before .before .match .keys1, c .single .ensures, c .before .of-i16 .ensures)
 
 returns-2 : tie.Need-returns-2
 unfolding readOf
-returns-2 c = rw (c .before .before .match .keys2, c .single2 .ensures, c .before .digest2 .ensures)
+returns-2 c = rw (c .before .before .match .keys2, c .single2 .ensures, c .before .of-i162 .ensures)
 
 returns-3 : tie.Need-returns-3
 unfolding readOf
@@ -78,9 +78,9 @@ pub read-spec : {M : Type 1} → statement M
 read-spec =
     tie.close
     (tie.spec
-    digest-requires
+    of-i16-requires
     single-requires
-    digest-requires-2
+    of-i16-requires-2
     single-requires-2
     part-requires
     label-requires

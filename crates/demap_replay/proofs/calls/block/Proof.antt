@@ -1,5 +1,5 @@
 -- `demap_replay::calls::block` meets its contract. Assumes nothing.
-use Rattle.demap_replay.proofs.Laws.{take-least, drop-least}
+use Rattle.fields.proofs.Laws.{take-least, drop-least}
 use Rattle.demap_replay.specs.Calls.{softs, blockCall}
 use Rattle.laws.proofs.Size.{back}
 use borrow.Author.Needs.{needs}

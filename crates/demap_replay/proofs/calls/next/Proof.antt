@@ -1,5 +1,5 @@
 -- `demap_replay::calls::next` meets its contract. Assumes nothing.
-use Rattle.demap_replay.proofs.Laws.{take-least, drop-least}
+use Rattle.fields.proofs.Laws.{take-least, drop-least}
 use Rattle.demap_replay.specs.Calls.{nextCall, nextLeft}
 use borrow.Author.Needs.{needs}
 use lib.Seq.{length-take-le}

@@ -1,5 +1,5 @@
 -- `demap_replay::calls::part` meets its contract. Assumes nothing.
-use Rattle.demap_replay.proofs.Laws.{take-least, least-length}
+use Rattle.fields.proofs.Laws.{take-least, least-length}
 use Rattle.demap_replay.specs.Calls.{partTold}
 use borrow.Author.Needs.{needs}
 use lib.Seq.{length-take-le}
@@ -37,8 +37,8 @@ slice-aggregate-points-in-force-2 c = sym (length-take-le _ _ (search needs))
 points-in-force-requires : tie.Need-points-in-force-requires
 points-in-force-requires c κs = search needs
 
-digest-requires : tie.Need-digest-requires
-digest-requires c κs = search needs
+of-i16-requires : tie.Need-of-i16-requires
+of-i16-requires c κs = search needs
 
 single-requires : tie.Need-single-requires
 single-requires c κs = search needs
@@ -52,7 +52,7 @@ returns c =
     let i = c .before .before .before .before .before .before .before .before .before .before .index in
     let q = rw (n .ensures .0, m .ensures .0, least-length _ (a .learned .now), least-length _ (a .nominal .now), i .ensures) at (c .before .before .before .before .before .sets-refusal .ensures) in
     let e = rw (n .ensures .0, m .ensures .0, take-least _ (a .learned .now), take-least _ (a .nominal .now), i .ensures) at (c .before .before .points-in-force .ensures) in
-    rw (c .single .ensures, c .before .digest .ensures, q, e)
+    rw (c .single .ensures, c .before .of-i16 .ensures, q, e)
 
 pub part-spec : {M : Type 1} → statement M
 part-spec =
@@ -68,6 +68,6 @@ part-spec =
     slice-aggregate-points-in-force
     slice-aggregate-points-in-force-2
     points-in-force-requires
-    digest-requires
+    of-i16-requires
     single-requires
     returns)

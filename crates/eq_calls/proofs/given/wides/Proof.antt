@@ -6,7 +6,8 @@ use lib.ListN.{drop, drop-of-length-le}
 use mathlib.Core.List.{[], _++_, append-nil}
 use mathlib.Core.Path.{_∙_, _≡_, refl}
 use native.Mathlib.Omega.{arith}
-use Rattle.eq_calls.specs.Given.{signed64, widesOf}
+use Rattle.fields.specs.Fields.{signed64}
+use Rattle.eq_calls.specs.Given.{widesOf}
 use mir.Facts.{toZ-ofZ}
 use borrow.Author.Needs.{needs}
 use Rattle.eq_calls.proofs.given.wides.Statement.{statement}

@@ -4,17 +4,17 @@ use borrow.Author.Needs.{needs}
 use Rattle.eq_calls.proofs.told.told.Statement.{statement}
 use Rattle.eq_calls.proofs.told.told.Tie as tie
 
-slice-aggregate-digest : tie.Need-slice-aggregate-digest
-slice-aggregate-digest c = search needs
+slice-aggregate-of-i16 : tie.Need-slice-aggregate-of-i16
+slice-aggregate-of-i16 c = search needs
 
-digest-requires : tie.Need-digest-requires
-digest-requires c κs = search needs
+of-i16-requires : tie.Need-of-i16-requires
+of-i16-requires c κs = search needs
 
-slice-aggregate-digest-2 : tie.Need-slice-aggregate-digest-2
-slice-aggregate-digest-2 c = search needs
+slice-aggregate-of-i16-2 : tie.Need-slice-aggregate-of-i16-2
+slice-aggregate-of-i16-2 c = search needs
 
-digest-requires-2 : tie.Need-digest-requires-2
-digest-requires-2 c κs = search needs
+of-i16-requires-2 : tie.Need-of-i16-requires-2
+of-i16-requires-2 c κs = search needs
 
 from-shown-requires : tie.Need-from-shown-requires
 from-shown-requires c κs = search needs
@@ -33,16 +33,16 @@ cast-t23 c = search needs
 
 returns : tie.Need-returns
 unfolding toldOf
-returns c = rw (c .before .flag .ensures, c .before .before .sums-shown2 .ensures, c .before .before .before .sums-shown .ensures, c .before .before .before .before .from-shown .ensures, c .before .before .before .before .before .digest2 .ensures, c .before .before .before .before .before .before .before .digest .ensures)
+returns c = rw (c .before .flag .ensures, c .before .before .sums-shown2 .ensures, c .before .before .before .sums-shown .ensures, c .before .before .before .before .from-shown .ensures, c .before .before .before .before .before .of-i162 .ensures, c .before .before .before .before .before .before .before .of-i16 .ensures)
 
 pub told-spec : {M : Type 1} → statement M
 told-spec =
     tie.close
     (tie.spec
-    slice-aggregate-digest
-    digest-requires
-    slice-aggregate-digest-2
-    digest-requires-2
+    slice-aggregate-of-i16
+    of-i16-requires
+    slice-aggregate-of-i16-2
+    of-i16-requires-2
     from-shown-requires
     sums-shown-requires
     sums-shown-requires-2

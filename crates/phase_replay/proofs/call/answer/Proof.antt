@@ -6,17 +6,17 @@ use borrow.Author.Needs.{needs}
 use Rattle.phase_replay.proofs.call.answer.Statement.{statement}
 use Rattle.phase_replay.proofs.call.answer.Tie as tie
 
-digest-requires : tie.Need-digest-requires
-digest-requires c κs = search needs
+of-i16-requires : tie.Need-of-i16-requires
+of-i16-requires c κs = search needs
 
-single-requires : tie.Need-single-requires
-single-requires c κs = search needs
+four-requires : tie.Need-four-requires
+four-requires c κs = search needs
 
-digest-requires-2 : tie.Need-digest-requires-2
-digest-requires-2 c κs = search needs
+of-i16-requires-2 : tie.Need-of-i16-requires-2
+of-i16-requires-2 c κs = search needs
 
-single-requires-2 : tie.Need-single-requires-2
-single-requires-2 c κs = search needs
+four-requires-2 : tie.Need-four-requires-2
+four-requires-2 c κs = search needs
 
 nco-new-requires : tie.Need-nco-new-requires
 nco-new-requires c κs = search needs
@@ -36,8 +36,8 @@ gain-requires c κs = search needs
 new-requires : tie.Need-new-requires
 new-requires c κs = search needs
 
-state-requires : tie.Need-state-requires
-state-requires c κs = search needs
+phase-requires : tie.Need-phase-requires
+phase-requires c κs = search needs
 
 restart-requires : tie.Need-restart-requires
 restart-requires c κs = search needs
@@ -54,16 +54,16 @@ next-requires c κs = search needs
 correct-requires : tie.Need-correct-requires
 correct-requires c κs = search needs
 
-single-requires-3 : tie.Need-single-requires-3
-single-requires-3 c κs = search needs
+four-requires-3 : tie.Need-four-requires-3
+four-requires-3 c κs = search needs
 
 returns : tie.Need-returns
 unfolding answerOf
-returns c = rw (c .before .before .match .keys1, c .single .ensures, c .before .digest .ensures)
+returns c = rw (c .before .before .match .keys1, c .four .ensures, c .before .of-i16 .ensures)
 
 returns-2 : tie.Need-returns-2
 unfolding answerOf
-returns-2 c = rw (c .before .before .match .keys2, c .single2 .ensures, c .before .digest2 .ensures)
+returns-2 c = rw (c .before .before .match .keys2, c .four2 .ensures, c .before .of-i162 .ensures)
 
 returns-3 : tie.Need-returns-3
 unfolding answerOf
@@ -87,7 +87,7 @@ returns-7 c = rw (c .before .match .keys7, c .gain .ensures)
 
 returns-8 : tie.Need-returns-8
 unfolding answerOf
-returns-8 c = rw (c .before .before .match .keys8, c .state .ensures, c .before .new .ensures)
+returns-8 c = rw (c .before .before .match .keys8, c .phase .ensures, c .before .new .ensures)
 
 returns-9 : tie.Need-returns-9
 unfolding answerOf
@@ -110,29 +110,29 @@ unfolding answerOf
 returns-13 c = rw (c .before .match .keys13, c .correct .ensures)
 
 returns-14 : tie.Need-returns-14
-returns-14 c = let s = c .before .before in c .single3 .ensures ∙ answer-none (s .args .op) (s .args .p .now) (s .args .table .now) (s .args .store .now) (s .pre) (c .before .match .rest)
+returns-14 c = let s = c .before .before in c .four3 .ensures ∙ answer-none (s .args .op) (s .args .p .now) (s .args .table .now) (s .args .store .now) (s .pre) (c .before .match .rest)
 
 pub answer-spec : {M : Type 1} → statement M
 answer-spec =
     tie.close
     (tie.spec
-    digest-requires
-    single-requires
-    digest-requires-2
-    single-requires-2
+    of-i16-requires
+    four-requires
+    of-i16-requires-2
+    four-requires-2
     nco-new-requires
     rotate-requires
     hear-requires
     nco-restart-requires
     gain-requires
     new-requires
-    state-requires
+    phase-requires
     restart-requires
     head-requires
     due-requires
     next-requires
     correct-requires
-    single-requires-3
+    four-requires-3
     returns
     returns-2
     returns-3

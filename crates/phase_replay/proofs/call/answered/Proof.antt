@@ -13,14 +13,14 @@ push-requires c κs = search needs
 set-requires : tie.Need-set-requires
 set-requires c κs = search needs
 
-single-requires : tie.Need-single-requires
-single-requires c κs = search needs
+four-requires : tie.Need-four-requires
+four-requires c κs = search needs
 
 set-requires-2 : tie.Need-set-requires-2
 set-requires-2 c κs = search needs
 
-single-requires-2 : tie.Need-single-requires-2
-single-requires-2 c κs = search needs
+four-requires-2 : tie.Need-four-requires-2
+four-requires-2 c κs = search needs
 
 answer-requires : tie.Need-answer-requires
 answer-requires c κs = search needs
@@ -37,14 +37,14 @@ same-length-2 c = search needs
 
 returns-2 : tie.Need-returns-2
 unfolding answerOf tableOf storeOf
-returns-2 c = let k = c .before .before .before .before .match .keys2 in (rw (k, c .single .ensures), rw k (c .before .before .set .ensures ∙ sym (if-yes _ _ _ refl)), rw k (sym (if-no _ _ _ refl ∙ if-no _ _ _ refl)))
+returns-2 c = let k = c .before .before .before .before .match .keys2 in (rw (k, c .four .ensures), rw k (c .before .before .set .ensures ∙ sym (if-yes _ _ _ refl)), rw k (sym (if-no _ _ _ refl ∙ if-no _ _ _ refl)))
 
 same-length-3 : tie.Need-same-length-3
 same-length-3 c = search needs
 
 returns-3 : tie.Need-returns-3
 unfolding answerOf tableOf storeOf
-returns-3 c = let k = c .before .before .before .before .match .keys3 in (rw (k, c .single2 .ensures), rw k (sym (if-no _ _ _ refl)), rw k (c .before .before .set2 .ensures ∙ sym (if-no _ _ _ refl ∙ if-yes _ _ _ refl)))
+returns-3 c = let k = c .before .before .before .before .match .keys3 in (rw (k, c .four2 .ensures), rw k (sym (if-no _ _ _ refl)), rw k (c .before .before .set2 .ensures ∙ sym (if-no _ _ _ refl ∙ if-yes _ _ _ refl)))
 
 same-length-4 : tie.Need-same-length-4
 same-length-4 c = search needs
@@ -64,9 +64,9 @@ answered-spec =
     (tie.spec
     push-requires
     set-requires
-    single-requires
+    four-requires
     set-requires-2
-    single-requires-2
+    four-requires-2
     answer-requires
     same-length
     returns

@@ -2,7 +2,7 @@
 use mathlib.Core.Path.{sym}
 use lib.Seq.{length-take-le}
 use Rattle.phase_replay.specs.Calls.{correctCall}
-use Rattle.phase_replay.proofs.Laws.{take-least}
+use Rattle.fields.proofs.Laws.{take-least}
 use borrow.Author.Needs.{needs}
 use Rattle.phase_replay.proofs.calls.correct.Statement.{statement}
 use Rattle.phase_replay.proofs.calls.correct.Tie as tie

@@ -4,8 +4,8 @@ use borrow.Author.Needs.{needs}
 use Rattle.phase_replay.proofs.calls.due.Statement.{statement}
 use Rattle.phase_replay.proofs.calls.due.Tie as tie
 
-state-at-requires : tie.Need-state-at-requires
-state-at-requires c κs = search needs
+phase-at-requires : tie.Need-phase-at-requires
+phase-at-requires c κs = search needs
 
 head-at-requires : tie.Need-head-at-requires
 head-at-requires c κs = search needs
@@ -18,8 +18,8 @@ due-requires c κs = search needs
 
 returns : tie.Need-returns
 unfolding dueCall
-returns c = rw (c .due .ensures, c .before .head .ensures, c .before .before .head-at .ensures, c .before .before .before .state-at .ensures)
+returns c = rw (c .due .ensures, c .before .head .ensures, c .before .before .head-at .ensures, c .before .before .before .phase-at .ensures)
 
 pub due-spec : {M : Type 1} → statement M
 due-spec =
-    tie.close (tie.spec state-at-requires head-at-requires head-requires due-requires returns)
+    tie.close (tie.spec phase-at-requires head-at-requires head-requires due-requires returns)

@@ -4,8 +4,8 @@ use borrow.Author.Needs.{needs}
 use Rattle.phase_replay.proofs.calls.next.Statement.{statement}
 use Rattle.phase_replay.proofs.calls.next.Tie as tie
 
-state-at-requires : tie.Need-state-at-requires
-state-at-requires c κs = search needs
+phase-at-requires : tie.Need-phase-at-requires
+phase-at-requires c κs = search needs
 
 head-at-requires : tie.Need-head-at-requires
 head-at-requires c κs = search needs
@@ -18,8 +18,8 @@ next-requires c κs = search needs
 
 returns : tie.Need-returns
 unfolding nextCall
-returns c = rw (c .next .ensures, c .before .head .ensures, c .before .before .head-at .ensures, c .before .before .before .state-at .ensures)
+returns c = rw (c .next .ensures, c .before .head .ensures, c .before .before .head-at .ensures, c .before .before .before .phase-at .ensures)
 
 pub next-spec : {M : Type 1} → statement M
 next-spec =
-    tie.close (tie.spec state-at-requires head-at-requires head-requires next-requires returns)
+    tie.close (tie.spec phase-at-requires head-at-requires head-requires next-requires returns)

@@ -4,13 +4,13 @@ use lib.Seq.{length-take-le}
 use Rattle.phase_replay.specs.Calls.{pushCall, pushLeft}
 use Rattle.laws.proofs.Size.{back}
 use mir.Syntax.{w16}
-use Rattle.phase_replay.proofs.Laws.{take-least, drop-least}
+use Rattle.fields.proofs.Laws.{take-least, drop-least}
 use borrow.Author.Needs.{needs}
 use Rattle.phase_replay.proofs.calls.push.Statement.{statement}
 use Rattle.phase_replay.proofs.calls.push.Tie as tie
 
-state-at-requires : tie.Need-state-at-requires
-state-at-requires c κs = search needs
+phase-at-requires : tie.Need-phase-at-requires
+phase-at-requires c κs = search needs
 
 element-copy-out-least : tie.Need-element-copy-out-least
 element-copy-out-least c = search needs
@@ -39,8 +39,8 @@ slice-aggregate-push c = sym (length-take-le _ _ (search needs))
 push-requires : tie.Need-push-requires
 push-requires c κs = search needs
 
-state-requires : tie.Need-state-requires
-state-requires c κs = search needs
+phase-requires : tie.Need-phase-requires
+phase-requires c κs = search needs
 
 same-length : tie.Need-same-length
 same-length c = search needs
@@ -50,14 +50,14 @@ unfolding pushCall pushLeft
 returns c =
     let r = c .before .before .push in
     let a = c .before .before .before .before .before .before .before .before .before .before .before .args in
-    let e = rw (back w16 (c .before .before .before .before .before .before .signed16 .result) (c .before .before .before .before .before .before .signed16 .ok), back w16 (c .before .before .before .before .signed162 .result) (c .before .before .before .before .signed162 .ok), c .before .before .before .before .before .before .signed16 .ensures, c .before .before .before .before .signed162 .ensures, c .before .before .before .before .before .before .before .before .least .ensures .0, take-least _ (a .store .now), c .before .before .before .before .before .before .before .before .before .before .state-at .ensures) at (r .ensures) in
-    (rw (c .state .ensures, e .0), rw (e .1, c .before .before .before .before .before .before .before .before .least .ensures .0, drop-least _ (a .store .now)))
+    let e = rw (back w16 (c .before .before .before .before .before .before .signed16 .result) (c .before .before .before .before .before .before .signed16 .ok), back w16 (c .before .before .before .before .signed162 .result) (c .before .before .before .before .signed162 .ok), c .before .before .before .before .before .before .signed16 .ensures, c .before .before .before .before .signed162 .ensures, c .before .before .before .before .before .before .before .before .least .ensures .0, take-least _ (a .store .now), c .before .before .before .before .before .before .before .before .before .before .phase-at .ensures) at (r .ensures) in
+    (rw (c .phase .ensures, e .0), rw (e .1, c .before .before .before .before .before .before .before .before .least .ensures .0, drop-least _ (a .store .now)))
 
 pub push-spec : {M : Type 1} → statement M
 push-spec =
     tie.close
     (tie.spec
-    state-at-requires
+    phase-at-requires
     element-copy-out-least
     least-requires
     element-copy-out-signed16
@@ -67,6 +67,6 @@ push-spec =
     slice-relend-prefix-push
     slice-aggregate-push
     push-requires
-    state-requires
+    phase-requires
     same-length
     returns)

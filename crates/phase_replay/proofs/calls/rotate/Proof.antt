@@ -6,7 +6,7 @@ use Rattle.laws.proofs.Size.{back}
 use mir.Facts.{toZ-ofZ}
 use mir.Val.{SFits}
 use mir.Syntax.{w8, w16}
-use Rattle.phase_replay.proofs.Laws.{take-least}
+use Rattle.fields.proofs.Laws.{take-least}
 use borrow.Author.Needs.{needs}
 use Rattle.phase_replay.proofs.calls.rotate.Statement.{statement}
 use Rattle.phase_replay.proofs.calls.rotate.Tie as tie

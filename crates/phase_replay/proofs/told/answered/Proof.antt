@@ -13,8 +13,8 @@ corrected-requires c κs = search needs
 enum-known-a-2 : tie.Need-enum-known-a-2
 enum-known-a-2 c = search needs
 
-single-requires : tie.Need-single-requires
-single-requires c κs = search needs
+four-requires : tie.Need-four-requires
+four-requires c κs = search needs
 
 returns : tie.Need-returns
 unfolding answeredTold
@@ -22,9 +22,9 @@ returns c = rw (c .before .before .a .given .1, c .corrected .ensures)
 
 returns-2 : tie.Need-returns-2
 unfolding answeredTold
-returns-2 c = rw (c .before .before .a2 .given .1, c .single .ensures)
+returns-2 c = rw (c .before .before .a2 .given .1, c .four .ensures)
 
 pub answered-spec : {M : Type 1} → statement M
 answered-spec =
     tie.close
-    (tie.spec enum-known-a corrected-requires enum-known-a-2 single-requires returns returns-2)
+    (tie.spec enum-known-a corrected-requires enum-known-a-2 four-requires returns returns-2)

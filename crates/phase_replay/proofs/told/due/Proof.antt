@@ -10,8 +10,8 @@ use Rattle.phase_replay.proofs.told.due.Tie as tie
 enum-told : tie.Need-enum-told
 enum-told c = search needs
 
-single-requires : tie.Need-single-requires
-single-requires c κs = search needs
+four-requires : tie.Need-four-requires
+four-requires c κs = search needs
 
 enum-known-d : tie.Need-enum-known-d
 enum-known-d c = search needs
@@ -30,7 +30,7 @@ head-requires c κs = search needs
 
 returns : tie.Need-returns
 unfolding dueTold
-returns c = rw (c .before .enum-told .given .1, c .single .ensures)
+returns c = rw (c .before .enum-told .given .1, c .four .ensures)
 
 returns-2 : tie.Need-returns-2
 unfolding dueTold
@@ -46,7 +46,7 @@ due-spec =
     tie.close
     (tie.spec
     enum-told
-    single-requires
+    four-requires
     enum-known-d
     to-bits-requires
     to-bits-requires-2

@@ -7,8 +7,8 @@ use Rattle.phase_replay.proofs.told.next.Tie as tie
 enum-told : tie.Need-enum-told
 enum-told c = search needs
 
-single-requires : tie.Need-single-requires
-single-requires c κs = search needs
+four-requires : tie.Need-four-requires
+four-requires c κs = search needs
 
 enum-known-d : tie.Need-enum-known-d
 enum-known-d c = search needs
@@ -18,7 +18,7 @@ head-requires c κs = search needs
 
 returns : tie.Need-returns
 unfolding nextTold
-returns c = rw (c .before .enum-told .given .1, c .single .ensures)
+returns c = rw (c .before .enum-told .given .1, c .four .ensures)
 
 returns-2 : tie.Need-returns-2
 unfolding nextTold
@@ -26,4 +26,4 @@ returns-2 c = rw (c .before .before .before .d .given .1, c .head .ensures)
 
 pub next-spec : {M : Type 1} → statement M
 next-spec =
-    tie.close (tie.spec enum-told single-requires enum-known-d head-requires returns returns-2)
+    tie.close (tie.spec enum-told four-requires enum-known-d head-requires returns returns-2)

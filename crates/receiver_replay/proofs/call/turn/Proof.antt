@@ -7,15 +7,15 @@ use mathlib.Core.Path.{_∙_, sym}
 use Rattle.receiver_replay.proofs.call.turn.Statement.{statement}
 use Rattle.receiver_replay.proofs.call.turn.Tie as tie
 
-without-requires : tie.Need-without-requires
-without-requires c κs = search needs
+turn-requires : tie.Need-turn-requires
+turn-requires c κs = search needs
 
 with-requires : tie.Need-with-requires
 with-requires c κs = search needs
 
 returns : tie.Need-returns
 unfolding turnOf
-returns c = rw (c .without .ensures) (sym (if-yes _ _ _ (lt-ltb _ _ (c .before .if1 .taken))))
+returns c = rw (c .turn .ensures) (sym (if-yes _ _ _ (lt-ltb _ _ (c .before .if1 .taken))))
 
 same-length : tie.Need-same-length
 same-length c = search needs
@@ -37,7 +37,7 @@ pub turn-spec : {M : Type 1} → statement M
 turn-spec =
     tie.close
     (tie.spec
-    without-requires
+    turn-requires
     with-requires
     returns
     same-length

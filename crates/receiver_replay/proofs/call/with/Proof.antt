@@ -1,9 +1,8 @@
 -- `receiver_replay::call::with` meets its contract. Assumes nothing.
+use borrow.Author.Needs.{needs}
 use Rattle.receiver_replay.proofs.Laws.{stores-none}
-use Rattle.receiver_replay.specs.Calls.{plain}
 use Rattle.receiver_replay.specs.Replay.{storesOf}
 use Rattle.wire.proofs.Laws.{past}
-use borrow.Author.Needs.{needs}
 use Rattle.receiver_replay.proofs.call.with.Statement.{statement}
 use Rattle.receiver_replay.proofs.call.with.Tie as tie
 
@@ -28,8 +27,14 @@ play-requires c κs = search needs
 feed-requires : tie.Need-feed-requires
 feed-requires c κs = search needs
 
+set-natural-requires : tie.Need-set-natural-requires
+set-natural-requires c κs = search needs
+
 plain-requires-2 : tie.Need-plain-requires-2
 plain-requires-2 c κs = search needs
+
+plain-requires-3 : tie.Need-plain-requires-3
+plain-requires-3 c κs = search needs
 
 same-length : tie.Need-same-length
 same-length c = search needs
@@ -97,8 +102,15 @@ returns-6 : tie.Need-returns-6
 unfolding storesOf
 returns-6 c = rw (c .before .before .before .before .before .before .before .before .before .match .keys6, c .before .before .before .before .feed .ensures)
 
+same-length-15 : tie.Need-same-length-15
+same-length-15 c = search needs
+
 returns-7 : tie.Need-returns-7
-returns-7 c = rw (c .plain2 .ensures) (stores-none (c .before .before .before .args .n) (c .before .before .before .args .p .now) _ (past 6 _ (c .before .match .rest)))
+unfolding storesOf
+returns-7 c = rw (c .before .before .before .before .before .match .keys7, c .plain2 .ensures, c .before .before .before .set-natural .ensures)
+
+returns-8 : tie.Need-returns-8
+returns-8 c = rw (c .plain3 .ensures) (stores-none (c .before .before .before .args .n) (c .before .before .before .args .p .now) _ (past 7 _ (c .before .match .rest)))
 
 pub with-spec : {M : Type 1} → statement M
 with-spec =
@@ -111,7 +123,9 @@ with-spec =
     plain-requires
     play-requires
     feed-requires
+    set-natural-requires
     plain-requires-2
+    plain-requires-3
     same-length
     returns
     same-length-2
@@ -132,4 +146,6 @@ with-spec =
     same-length-13
     same-length-14
     returns-6
-    returns-7)
+    same-length-15
+    returns-7
+    returns-8)

@@ -6,7 +6,8 @@ use lib.ListN.{drop, drop-of-length-le}
 use mathlib.Core.List.{[], _++_, append-nil}
 use mathlib.Core.Path.{_∙_, _≡_, refl}
 use native.Mathlib.Omega.{arith}
-use Rattle.receiver_replay.specs.Given.{oneAt, symbolsOf}
+use Rattle.fields.specs.Fields.{oneAt}
+use Rattle.receiver_replay.specs.Given.{symbolsOf}
 use mir.Facts.{toZ-ofZ}
 use borrow.Author.Needs.{needs}
 use Rattle.receiver_replay.proofs.given.symbols.Statement.{statement}

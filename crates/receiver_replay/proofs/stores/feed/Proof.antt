@@ -18,9 +18,6 @@ element-copy-out-least c = search needs
 least-requires : tie.Need-least-requires
 least-requires c κs = search needs
 
-mul-m : tie.Need-mul-m
-mul-m c = search needs
-
 element-copy-out-least-2 : tie.Need-element-copy-out-least-2
 element-copy-out-least-2 c = search needs
 
@@ -75,8 +72,8 @@ slice-aggregate-feed-5 c = sym (length-take-le _ _ (search needs))
 feed-requires : tie.Need-feed-requires
 feed-requires c κs = search needs
 
-told-requires : tie.Need-told-requires
-told-requires c κs = search needs
+played-requires : tie.Need-played-requires
+played-requires c κs = search needs
 
 same-length : tie.Need-same-length
 same-length c = search needs
@@ -91,7 +88,7 @@ returns : tie.Need-returns
 returns c =
     let s = c .before .before .before .before .before .before .before .before .before .before .before .before .before .before .before .before .before .before .before .before .before .before .before .before .before .before .before .before .args in
     fed-is (s .k) (s .p .now) (s .table .now) (s .acc .now) (s .store .now) (s .soft .now) _ _ _ _ _ _ _ _ _ _ _ _
-    (c .before .before .before .before .before .before .before .before .before .before .before .before .before .before .before .before .before .before .before .before .before .before .least .ensures .0) (c .before .before .before .before .before .before .before .before .before .before .before .before .before .before .before .before .before .before .before .before .least2 .ensures .0) (c .before .before .before .before .before .before .before .before .before .before .before .before .before .before .before .before .before .before .least3 .ensures .0) (c .before .before .before .before .before .before .before .before .before .before .before .before .before .before .before .before .least4 .ensures .0) (c .before .before .before .before .before .before .before .before .before .before .before .before .before .before .least5 .ensures .0) (c .before .before .before .before .before .before .before .before .before .before .before .before .before .before .before .before .before .before .before .before .before .before .before .before .symbols .ensures) (c .before .before .before .before .before .before .before .before .before .before .before .before .before .before .before .before .before .before .before .before .before .before .before .before .before .before .packed .ensures) (c .before .before .before .before .before .feed .ensures .0) (c .before .before .before .before .before .feed .ensures .1) (c .told .ensures)
+    (c .before .before .before .before .before .before .before .before .before .before .before .before .before .before .before .before .before .before .before .before .before .before .least .ensures .0) (c .before .before .before .before .before .before .before .before .before .before .before .before .before .before .before .before .before .before .before .before .least2 .ensures .0) (c .before .before .before .before .before .before .before .before .before .before .before .before .before .before .before .before .before .before .least3 .ensures .0) (c .before .before .before .before .before .before .before .before .before .before .before .before .before .before .before .before .least4 .ensures .0) (c .before .before .before .before .before .before .before .before .before .before .before .before .before .before .least5 .ensures .0) (c .before .before .before .before .before .before .before .before .before .before .before .before .before .before .before .before .before .before .before .before .before .before .before .before .symbols .ensures) (c .before .before .before .before .before .before .before .before .before .before .before .before .before .before .before .before .before .before .before .before .before .before .before .before .before .before .packed .ensures) (c .before .before .before .before .before .feed .ensures .0) (c .before .before .before .before .before .feed .ensures .1) (c .played .ensures)
 
 pub feed-spec : {M : Type 1} → statement M
 feed-spec =
@@ -101,7 +98,6 @@ feed-spec =
     symbols-requires
     element-copy-out-least
     least-requires
-    mul-m
     element-copy-out-least-2
     least-requires-2
     element-copy-out-least-3
@@ -120,7 +116,7 @@ feed-spec =
     slice-relend-prefix-feed-3
     slice-aggregate-feed-5
     feed-requires
-    told-requires
+    played-requires
     same-length
     same-length-2
     same-length-3

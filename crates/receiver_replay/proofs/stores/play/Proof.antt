@@ -66,8 +66,8 @@ slice-aggregate-play-4 c = sym (length-take-le _ _ (search needs))
 play-requires : tie.Need-play-requires
 play-requires c κs = search needs
 
-told-requires : tie.Need-told-requires
-told-requires c κs = search needs
+played-requires : tie.Need-played-requires
+played-requires c κs = search needs
 
 same-length : tie.Need-same-length
 same-length c = search needs
@@ -82,7 +82,7 @@ returns : tie.Need-returns
 returns c =
     let s = c .before .before .before .before .before .before .before .before .before .before .before .before .before .before .before .before .before .before .before .before .before .before .before .before .before .before .before .before .args in
     played-is (s .k) (s .p .now) (s .table .now) (s .acc .now) (s .store .now) (s .soft .now) _ _ _ _ _ _ _ _ _ _ _ _
-    (c .before .before .before .before .before .before .before .before .before .before .before .before .before .before .before .before .before .before .before .before .before .before .least .ensures .0) (c .before .before .before .before .before .before .before .before .before .before .before .before .before .before .before .before .before .before .before .before .least2 .ensures .0) (c .before .before .before .before .before .before .before .before .before .before .before .before .before .before .before .before .before .before .least3 .ensures .0) (c .before .before .before .before .before .before .before .before .before .before .before .before .before .before .before .before .least4 .ensures .0) (c .before .before .before .before .before .before .before .before .before .before .before .before .before .before .least5 .ensures .0) (c .before .before .before .before .before .before .before .before .before .before .before .before .before .before .before .before .before .before .before .before .before .before .before .before .symbols .ensures) (c .before .before .before .before .before .before .before .before .before .before .before .before .before .before .before .before .before .before .before .before .before .before .before .before .before .before .packed .ensures) (c .before .before .before .before .before .play .ensures .0) (c .before .before .before .before .before .play .ensures .1) (c .told .ensures)
+    (c .before .before .before .before .before .before .before .before .before .before .before .before .before .before .before .before .before .before .before .before .before .before .least .ensures .0) (c .before .before .before .before .before .before .before .before .before .before .before .before .before .before .before .before .before .before .before .before .least2 .ensures .0) (c .before .before .before .before .before .before .before .before .before .before .before .before .before .before .before .before .before .before .least3 .ensures .0) (c .before .before .before .before .before .before .before .before .before .before .before .before .before .before .before .before .least4 .ensures .0) (c .before .before .before .before .before .before .before .before .before .before .before .before .before .before .least5 .ensures .0) (c .before .before .before .before .before .before .before .before .before .before .before .before .before .before .before .before .before .before .before .before .before .before .before .before .symbols .ensures) (c .before .before .before .before .before .before .before .before .before .before .before .before .before .before .before .before .before .before .before .before .before .before .before .before .before .before .packed .ensures) (c .before .before .before .before .before .play .ensures .0) (c .before .before .before .before .before .play .ensures .1) (c .played .ensures)
 
 pub play-spec : {M : Type 1} → statement M
 play-spec =
@@ -108,7 +108,7 @@ play-spec =
     slice-relend-prefix-play-3
     slice-aggregate-play-4
     play-requires
-    told-requires
+    played-requires
     same-length
     same-length-2
     same-length-3

@@ -1,5 +1,5 @@
 -- `receiver_replay::stores::restart` meets its contract. Assumes nothing.
-use Rattle.receiver_replay.proofs.Laws.{drop-least, take-least}
+use Rattle.fields.proofs.Laws.{drop-least, take-least}
 use Rattle.receiver_replay.specs.Calls.{restartLeft, restartTurn}
 use borrow.Author.Needs.{needs}
 use lib.Seq.{length-take-le}
