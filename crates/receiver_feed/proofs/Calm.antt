@@ -317,6 +317,19 @@ module _ (r : Receiver) (k : ℕ) (x : Moving) (e : receiverInRange r ≡ true) 
       nco-in : ncoInRange (r .front .nco) ≡ true → trailInRange (r .front .nco .trail) ≡ true
       nco-in h = unfold ncoInRange in h
 
+-- only the figures can leave their range
+pub figures-in : (r : Receiver) (k : ℕ) (x : Moving) → receiverInRange r ≡ true → allWithin 4096 (x .win) ≡ true → r .front .sync .run .t + k ≤ 2 ^ 62 →
+    receiverInRange (passedBy r k x) ≡ tallyWithin (passedBy r k x .front .sync .run .tally)
+figures-in r k x e w l =
+    by-test (tallyWithin (x .tally))
+    (λ t. passed-in r k x e (record { win = w; tally = t }) l ∙ sym (tally-is ∙ t))
+    (λ t. by-test (receiverInRange (passedBy r k x))
+    (λ u. u ∙ sym (tally-in (passedBy r k x) u))
+    (λ u. u ∙ sym (tally-is ∙ t)))
+  where
+    tally-is : tallyWithin (passedBy r k x .front .sync .run .tally) ≡ tallyWithin (x .tally)
+    tally-is = unfold passedBy in refl
+
 -- the next of them, as a symbol's call
 module _ (r : Receiver) (k i : ℕ) (x : Moving) (b : Block) (soft : List ℤ) (e : receiverInRange r ≡ true) (f : Fits x) (m : ℕ) (o : Ahead (r .front .sync .run) (suc m)) (l : k < m)
     (g : Stands (length (x .acc)) (length (x .store)) (length soft) (b .f) (b .s) (length (b .table))) where

@@ -4,7 +4,7 @@ use mathlib.Core.Bool.{Bool, true, false, _&&_}
 use mathlib.Core.List.{List}
 use mathlib.Core.Path.{_≡_, refl, sym, ap, subst, _∙_}
 use native.Mathlib.Omega.{arith}
-use borrow.Author.Tests.{eq-eqb, eqb-false, eqb-true, leb-true, ne-eqb}
+use borrow.Author.Tests.{eq-eqb, eqb-false, eqb-true, le-leb, leb-true, ne-eqb}
 use lib.Dec.{eqb, leb}
 use lib.IntN.{ℤ, pos}
 use lib.ListN.{getD, length}
@@ -21,12 +21,14 @@ use Rattle.receiver.specs.Symbol.{Input, Lent, past, full}
 use Rattle.receiver.specs.Ranges.{receiverInRange}
 use Rattle.receiver.specs.Answers.{noRuns, storesFit, symbolAnswer, symbolLent, symbolRefusal}
 use Rattle.receiver.specs.Feed.{Block, Fed, fedFrom, feedOf, feedRefusal, inputAt, quietAt, standingRefusal, symbolsOf, tellsAny}
+use Rattle.receiver_symbol.specs.Parts.{refusedBy, soonRefusal, stateRefusal}
+use Rattle.receiver_symbol.proofs.Symbols.{answer-soon, lent-soon}
 use Rattle.receiver_feed.specs.declared.Turn.{Turn}
 use Rattle.receiver_feed.specs.declared.Fed.{Fed as Answered}
 use Rattle.receiver_feed.specs.Answers.{feedAnswer}
 use Rattle.receiver_feed.specs.Quiet.{Fits, lentBy, movesFrom, passedBy}
 use Rattle.receiver_feed.proofs.Calm.{calm-known, stretch-stands}
-use Rattle.receiver_feed.specs.Turns.{Leads, Stand, Stands, answerOf, calmOf, refusedFeed, restBy, standFrom, standingBy, toldBy}
+use Rattle.receiver_feed.specs.Turns.{Leads, Stand, Stands, answerOf, calmOf, refusedFeed, restBy, standFrom, standingBy, stoppedAt, toldBy}
 
 -- ---- a refused symbol leaves all as it was
 module _ (r : Receiver) (x : Input) (l : Lent) (e : eqb (symbolAnswer r x l .refusal) 0 ≡ false) where
@@ -83,6 +85,30 @@ told-leads a n i h =
     (record { from = omega arith; most = omega (arith, h); on = λ e. omega arith })
     (record { from = omega arith; most = omega (arith, h); on = λ e. absurd (never e) })
 
+-- ---- a turn that a receiver's state stops
+pub state-soon : (r : Receiver) (acc store soft : ℕ) (f s : List ℤ) (table : ℕ) → Stands acc store soft f s table → soonRefusal r acc store soft f s table ≡ stateRefusal r
+unfolding soonRefusal if_then_else_
+state-soon r acc store soft f s table g = rw (eq-eqb acc 9296 (g .long), eq-eqb store 18592 (g .held), le-leb 44880 soft (g .buffer), g .first, g .second, eq-eqb table 1024 (g .cosines))
+
+told-stopped : (r : Receiver) (i k n : ℕ) → n ≡ k → (k ≡ 0 → ⊥) → toldBy (refusedBy n r) i ≡ stoppedAt k r i
+unfolding toldBy refusedBy stoppedAt
+told-stopped r i k n e h = rw e (if-no (eqb k 0) _ _ (ne-eqb k 0 h))
+
+pub stopped-end : (b : Block) (n i k : ℕ) (r : Receiver) (l : Lent) (t : Turn) → i < n → Stands (length (l .acc)) (length (l .store)) (length (l .soft)) (b .f) (b .s) (length (b .table)) →
+    k ≡ stateRefusal r → (k ≡ 0 → ⊥) → t ≡ stoppedAt k r i → (restBy b n t l ≡ standFrom b (n - i) i r l) × (Leads n i t)
+stopped-end b n i k r l t h g e z et =
+    let x = inputAt b i in
+    let q : soonRefusal r (length (l .acc)) (length (l .store)) (length (l .soft)) (x .f) (x .s) (length (x .table)) ≡ k = state-here ∙ sym e in
+    let u : t ≡ toldBy (symbolAnswer r x l) i = et ∙ sym (told-stopped r i k _ q z) ∙ ap (λ (a : Answer). toldBy a i) (answer-soon r x l (λ w. z (sym q ∙ w))) in
+    (rw u (ap (restBy b n (toldBy (symbolAnswer r x l) i)) (sym (lent-soon r x l (λ w. z (sym q ∙ w)))) ∙ single-stands b n i r l h), rw u (told-leads (symbolAnswer r x l) n i h))
+  where
+    state-here : soonRefusal r (length (l .acc)) (length (l .store)) (length (l .soft)) (inputAt b i .f) (inputAt b i .s) (length (inputAt b i .table)) ≡ stateRefusal r
+    state-here = unfold inputAt in state-soon r _ _ _ _ _ _ g
+
+pub out-of-range : (r : Receiver) → receiverInRange r ≡ false → 6 ≡ stateRefusal r
+unfolding stateRefusal
+out-of-range r e = sym (if-no (receiverInRange r) _ 6 e)
+
 -- ---- the end of a feed
 -- it is crate receiver's feed, with the number that stops it
 used-from : (b : Block) (k i : ℕ) (r : Receiver) (l : Lent) → i ≤ fedFrom b k i r l .used
@@ -129,6 +155,9 @@ rest-on b n i e t l u h k =
     by-test (t .done)
     (λ d. absurd (omega (arith, u, k, h ∙ if-yes (t .done) (t .used) n d)))
     (λ d. if-no (t .done) _ _ d ∙ rw u)
+
+pub not-done : (n i e : ℕ) (t : Turn) → i ≡ t .used → e ≡ (if t .done then t .used else n) → i < e → t .done ≡ false
+not-done n i e t u h k = by-test (t .done) (λ d. absurd (omega (arith, u, k, h ∙ if-yes (t .done) (t .used) n d))) (λ d. d)
 
 pub rest-end : (b : Block) (n i e : ℕ) (t : Turn) (l : Lent) → i ≡ t .used → i ≤ n → e ≡ (if t .done then t .used else n) → e ≤ i → restBy b (t .used) t l ≡ restBy b n t l
 unfolding restBy
@@ -228,7 +257,7 @@ unfolding restBy if_then_else_
 first-rest b n t l u d = let z : n - 0 ≡ n = omega arith in rw (d, u, z)
 
 -- ---- the whole feed
-pub standing-known : (r : Receiver) (acc store soft : ℕ) (f s : List ℤ) (table : ℕ) → standingBy r acc store soft f s table ≡ 0 → Stands acc store soft f s table
+pub standing-known : (r : Receiver) (acc store soft : ℕ) (f s : List ℤ) (table : ℕ) → standingBy r acc store soft f s table ≡ 0 → (Stands acc store soft f s table) × (receiverInRange r ≡ true)
 unfolding standingBy
 standing-known r acc store soft f s table h =
     let fit = eqb acc 9296 && eqb store 18592 && leb 44880 soft in
@@ -240,11 +269,14 @@ standing-known r acc store soft f s table h =
     by-test (onesOf f && onesOf s)
     (λ d. let h2 : n3 ≡ 0 = sym (if-yes (onesOf f && onesOf s) n3 2 d) ∙ h1 in
     by-test (eqb table 1024)
-    (λ e.
+    (λ e. let h3 : n6 ≡ 0 = sym (if-yes (eqb table 1024) n6 3 e) ∙ h2 in
+    by-test (receiverInRange r)
+    (λ i.
     let p = and-both (eqb acc 9296 && eqb store 18592) (leb 44880 soft) a in
     let q = and-both (eqb acc 9296) (eqb store 18592) (p .0) in
     let o = and-both (onesOf f) (onesOf s) d in
-    record { long = eqb-true acc 9296 (q .0); held = eqb-true store 18592 (q .1); buffer = leb-true 44880 soft (p .1); first = o .0; second = o .1; cosines = eqb-true table 1024 e })
+    (record { long = eqb-true acc 9296 (q .0); held = eqb-true store 18592 (q .1); buffer = leb-true 44880 soft (p .1); first = o .0; second = o .1; cosines = eqb-true table 1024 e }, i))
+    (λ i. no 5 (sym (if-no (receiverInRange r) 0 6 i) ∙ h3)))
     (λ e. no 2 (sym (if-no (eqb table 1024) n6 3 e) ∙ h2)))
     (λ d. no 1 (sym (if-no (onesOf f && onesOf s) n3 2 d) ∙ h1)))
     (λ a. no 0 (sym (if-no fit n2 1 a) ∙ h))

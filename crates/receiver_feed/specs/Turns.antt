@@ -50,6 +50,10 @@ toldBy a i =
     then record { refusal = 0; used = i + 1; receiver = a .receiver; events = a .events; runs = a .runs; done = tellsAny a }
     else record { refusal = a .refusal; used = i; receiver = a .receiver; events = a .events; runs = a .runs; done = true }
 
+-- symbol i would be refused by this number
+unfoldable pub stoppedAt : ℕ → Receiver → ℕ → Turn
+stoppedAt n r i = record { refusal = n; used = i; receiver = r; events = noEvents; runs = noRuns; done = true }
+
 -- how many of the next symbols tell nothing for sure, of those that are left: before the period's last position and the locked offset, in a receiver in range
 unfoldable pub calmOf : Receiver → ℕ → ℕ
 calmOf r left = if receiverInRange r then if leb (2 ^ 62) (nextOf r) then 0 else min (reachOf (r .front .sync .run) - 1) left else 0

@@ -51,7 +51,7 @@ fn quiet(
     store: &mut [i16],
 ) -> Moved
     requires { ⌜ (length (now win) ≡ 48) × (length (now acc) ≡ 9296) × (length (now store) ≡ 18592) × (length (now table) ≡ 1024) × (2 * (i + n) ≤ length (now bytes)) × (p + n ≤ 9296) × (c ≤ 9296) × (1 ≤ n) × (Unit (now rows)) × (allWithin 4096 (now win) ≡ true) × (tallyWithin y0 ≡ true) ⌝ }
-    ensures { λ r. ⌜ (moving (now (win .exit)) (r .tally) (now (acc .exit)) (now (store .exit)) (r .phase) ≡ moves (record { bytes = now (bytes .entry); table = now (table .entry); rows = now (rows .entry); freq = freq }) i p c (r .taken) (moving (now (win .entry)) y0 (now (acc .entry)) (now (store .entry)) phase)) × (1 ≤ r .taken) × (r .taken ≤ n) × ((j : ℕ) → j < r .taken → Fits (moves (record { bytes = now (bytes .entry); table = now (table .entry); rows = now (rows .entry); freq = freq }) i p c j (moving (now (win .entry)) y0 (now (acc .entry)) (now (store .entry)) phase))) ⌝ }
+    ensures { λ r. ⌜ (moving (now (win .exit)) (r .tally) (now (acc .exit)) (now (store .exit)) (r .phase) ≡ moves (record { bytes = now (bytes .entry); table = now (table .entry); rows = now (rows .entry); freq = freq }) i p c (r .taken) (moving (now (win .entry)) y0 (now (acc .entry)) (now (store .entry)) phase)) × (1 ≤ r .taken) × (r .taken ≤ n) × ((j : ℕ) → j < r .taken → Fits (moves (record { bytes = now (bytes .entry); table = now (table .entry); rows = now (rows .entry); freq = freq }) i p c j (moving (now (win .entry)) y0 (now (acc .entry)) (now (store .entry)) phase))) × (allWithin 4096 (now (win .exit)) ≡ true) ⌝ }
 {
     let mut y = y0;
     let mut a = phase;
@@ -89,7 +89,7 @@ pub(crate) fn moved(
     store: &mut [i16],
 ) -> Moved
     requires { ⌜ (length (now win) ≡ 48) × (length (now acc) ≡ 9296) × (length (now store) ≡ 18592) × (length (now table) ≡ 1024) × (2 * (i + n) ≤ length (now bytes)) × (p + n ≤ 9296) × (placeIn s ≤ 9296) × (1 ≤ n) × (Unit (now rows)) × (allWithin 4096 (now win) ≡ true) × (tallyWithin y0 ≡ true) ⌝ }
-    ensures { λ r. ⌜ (moving (now (win .exit)) (r .tally) (now (acc .exit)) (now (store .exit)) (r .phase) ≡ moves (record { bytes = now (bytes .entry); table = now (table .entry); rows = now (rows .entry); freq = freq }) i p (placeIn s) (r .taken) (moving (now (win .entry)) y0 (now (acc .entry)) (now (store .entry)) phase)) × (1 ≤ r .taken) × (r .taken ≤ n) × ((j : ℕ) → j < r .taken → Fits (moves (record { bytes = now (bytes .entry); table = now (table .entry); rows = now (rows .entry); freq = freq }) i p (placeIn s) j (moving (now (win .entry)) y0 (now (acc .entry)) (now (store .entry)) phase))) ⌝ }
+    ensures { λ r. ⌜ (moving (now (win .exit)) (r .tally) (now (acc .exit)) (now (store .exit)) (r .phase) ≡ moves (record { bytes = now (bytes .entry); table = now (table .entry); rows = now (rows .entry); freq = freq }) i p (placeIn s) (r .taken) (moving (now (win .entry)) y0 (now (acc .entry)) (now (store .entry)) phase)) × (1 ≤ r .taken) × (r .taken ≤ n) × ((j : ℕ) → j < r .taken → Fits (moves (record { bytes = now (bytes .entry); table = now (table .entry); rows = now (rows .entry); freq = freq }) i p (placeIn s) j (moving (now (win .entry)) y0 (now (acc .entry)) (now (store .entry)) phase))) × (allWithin 4096 (now (win .exit)) ≡ true) ⌝ }
 {
     match s {
         SlotPhase::Idle => quiet(

@@ -16,6 +16,7 @@ ghost use mathlib.Core.List.{[]};
 ghost use lib.ListN.{length};
 ghost use Rattle.sync_corr.specs.Rows.{Unit};
 ghost use Rattle.sync_block.specs.Quiet.{Ahead, passedRun};
+ghost use Rattle.receiver_bounds.specs.Bounds.{tallyWithin};
 ghost use Rattle.receiver.specs.Ranges.{receiverInRange};
 ghost use Rattle.receiver_feed.specs.Quiet.{Fits, movesFrom, moving, passedBy, phaseOn, placeIn};
 
@@ -123,7 +124,7 @@ pub(crate) fn stretch(
     store: &mut [i16],
 ) -> Passed
     requires { ⌜ (receiverInRange r ≡ true) × (Ahead (r .front .sync .run) (suc m)) × (1 ≤ m) × (2 * (i + m) ≤ length (now bytes)) × (Unit (now rows)) × (length (now table) ≡ 1024) × (length (now acc) ≡ 9296) × (length (now store) ≡ 18592) ⌝ }
-    ensures { λ p. ⌜ (p .receiver ≡ passedBy r (p .taken) (movesFrom r (now (bytes .entry)) (now (table .entry)) (now (rows .entry)) (now (acc .entry)) (now (store .entry)) i (p .taken))) × (now (acc .exit) ≡ movesFrom r (now (bytes .entry)) (now (table .entry)) (now (rows .entry)) (now (acc .entry)) (now (store .entry)) i (p .taken) .acc) × (now (store .exit) ≡ movesFrom r (now (bytes .entry)) (now (table .entry)) (now (rows .entry)) (now (acc .entry)) (now (store .entry)) i (p .taken) .store) × (1 ≤ p .taken) × (p .taken ≤ m) × ((j : ℕ) → j < p .taken → Fits (movesFrom r (now (bytes .entry)) (now (table .entry)) (now (rows .entry)) (now (acc .entry)) (now (store .entry)) i j)) ⌝ }
+    ensures { λ p. ⌜ (p .receiver ≡ passedBy r (p .taken) (movesFrom r (now (bytes .entry)) (now (table .entry)) (now (rows .entry)) (now (acc .entry)) (now (store .entry)) i (p .taken))) × (now (acc .exit) ≡ movesFrom r (now (bytes .entry)) (now (table .entry)) (now (rows .entry)) (now (acc .entry)) (now (store .entry)) i (p .taken) .acc) × (now (store .exit) ≡ movesFrom r (now (bytes .entry)) (now (table .entry)) (now (rows .entry)) (now (acc .entry)) (now (store .entry)) i (p .taken) .store) × (1 ≤ p .taken) × (p .taken ≤ m) × ((j : ℕ) → j < p .taken → Fits (movesFrom r (now (bytes .entry)) (now (table .entry)) (now (rows .entry)) (now (acc .entry)) (now (store .entry)) i j)) × (receiverInRange (p .receiver) ≡ tallyWithin (p .receiver .front .sync .run .tally)) ⌝ }
 {
     let n = r.front.nco;
     let y = r.front.sync.run;

@@ -10,15 +10,17 @@ use receiver_slot::Runs;
 use sync_step::Event;
 use sync_step::Events;
 ghost use mathlib.Core.Path.{_≡_};
-ghost use mathlib.Core.Bool.{Bool, not};
+ghost use mathlib.Core.Bool.{Bool, true, not};
 ghost use Prim.Native.Nat.{_+_, _-_, _*_, _/_, _≤_, _<_, _^_};
 ghost use lib.ListN.{length};
 ghost use Rattle.laws.specs.Choice.{if_then_else_};
 ghost use Rattle.sync_corr.specs.Rows.{rowsOf};
 ghost use Rattle.sync_step.specs.Events.{isNothing, noEvents};
+ghost use Rattle.receiver_bounds.specs.Bounds.{tallyWithin};
 ghost use Rattle.receiver.specs.Answers.{noRuns};
 ghost use Rattle.receiver.specs.Feed.{anyEvent, tellsAny};
-ghost use Rattle.receiver_feed.specs.Turns.{Leads, Stands, answerOf, refusedFeed, restBy, standFrom, toldBy};
+ghost use Rattle.receiver.specs.Ranges.{receiverInRange};
+ghost use Rattle.receiver_feed.specs.Turns.{Leads, Stands, answerOf, refusedFeed, restBy, standFrom, stoppedAt, toldBy};
 
 fn is_event(e: Event) -> bool
     ensures { λ r. ⌜ r ≡ not (isNothing e) ⌝ }
@@ -105,34 +107,53 @@ fn no_runs() -> Runs
     }
 }
 
-// Symbol i of n by its call.
+// Symbol i would be refused.
+fn stopped(n: u8, r: Receiver, i: usize) -> Turn
+    ensures { λ t. ⌜ t ≡ stoppedAt n r i ⌝ }
+{
+    Turn {
+        refusal: n,
+        used: i,
+        receiver: r,
+        events: no_events(),
+        runs: no_runs(),
+        done: true,
+    }
+}
+
+// Symbol i of n by its call; only the period's figures can be out of range.
 fn single(
     r: Receiver,
     i: usize,
     n: usize,
     bytes: &[i8],
-    f: [i8; 48],
-    s: [i8; 48],
+    f: &[i8; 48],
+    s: &[i8; 48],
     table: &[i16],
     acc: &mut [u32],
     store: &mut [i16],
     soft: &mut [i8],
 ) -> Turn
-    requires { ⌜ (i < n) × (n ≡ length (now bytes) / 2) ⌝ }
-    ensures { λ t. ⌜ (restBy (record { bytes = now (bytes .entry); f = f; s = s; table = now (table .entry) }) n t (record { acc = now (acc .exit); store = now (store .exit); soft = now (soft .exit) }) ≡ standFrom (record { bytes = now (bytes .entry); f = f; s = s; table = now (table .entry) }) (n - i) i r (record { acc = now (acc .entry); store = now (store .entry); soft = now (soft .entry) })) × (Leads n i t) ⌝ }
+    requires { ⌜ (i < n) × (n ≡ length (now bytes) / 2) × (Stands (length (now acc)) (length (now store)) (length (now soft)) (now f) (now s) (length (now table))) × (receiverInRange r ≡ tallyWithin (r .front .sync .run .tally)) ⌝ }
+    ensures { λ t. ⌜ (restBy (record { bytes = now (bytes .entry); f = now (f .entry); s = now (s .entry); table = now (table .entry) }) n t (record { acc = now (acc .exit); store = now (store .exit); soft = now (soft .exit) }) ≡ standFrom (record { bytes = now (bytes .entry); f = now (f .entry); s = now (s .entry); table = now (table .entry) }) (n - i) i r (record { acc = now (acc .entry); store = now (store .entry); soft = now (soft .entry) })) × (Leads n i t) ⌝ }
 {
-    let a = receiver_symbol::symbol(
-        r,
-        bytes[2 * i],
-        bytes[2 * i + 1],
-        f,
-        s,
-        table,
-        acc,
-        store,
-        soft,
-    );
-    told(a, i)
+    let k = ready::refusal(r);
+    if k == 0 {
+        let a = receiver_symbol::ranged::known(
+            r,
+            bytes[2 * i],
+            bytes[2 * i + 1],
+            f,
+            s,
+            table,
+            acc,
+            store,
+            soft,
+        );
+        told(a, i)
+    } else {
+        stopped(k, r, i)
+    }
 }
 
 // At symbol i of n: all that is left tells nothing, or what tells nothing and the symbol after it. Two callers with something to do behind them keep the loop of
@@ -142,16 +163,16 @@ fn turn(
     i: usize,
     n: usize,
     bytes: &[i8],
-    f: [i8; 48],
-    s: [i8; 48],
+    f: &[i8; 48],
+    s: &[i8; 48],
     rows: &[i16; 192],
     table: &[i16],
     acc: &mut [u32],
     store: &mut [i16],
     soft: &mut [i8],
 ) -> Turn
-    requires { ⌜ (i < n) × (n ≡ length (now bytes) / 2) × (now rows ≡ rowsOf f s) × (Stands (length (now acc)) (length (now store)) (length (now soft)) f s (length (now table))) ⌝ }
-    ensures { λ t. ⌜ (restBy (record { bytes = now (bytes .entry); f = f; s = s; table = now (table .entry) }) n t (record { acc = now (acc .exit); store = now (store .exit); soft = now (soft .exit) }) ≡ standFrom (record { bytes = now (bytes .entry); f = f; s = s; table = now (table .entry) }) (n - i) i r (record { acc = now (acc .entry); store = now (store .entry); soft = now (soft .entry) })) × (Leads n i t) ⌝ }
+    requires { ⌜ (i < n) × (n ≡ length (now bytes) / 2) × (now rows ≡ rowsOf (now f) (now s)) × (Stands (length (now acc)) (length (now store)) (length (now soft)) (now f) (now s) (length (now table))) × (receiverInRange r ≡ true) ⌝ }
+    ensures { λ t. ⌜ (restBy (record { bytes = now (bytes .entry); f = now (f .entry); s = now (s .entry); table = now (table .entry) }) n t (record { acc = now (acc .exit); store = now (store .exit); soft = now (soft .exit) }) ≡ standFrom (record { bytes = now (bytes .entry); f = now (f .entry); s = now (s .entry); table = now (table .entry) }) (n - i) i r (record { acc = now (acc .entry); store = now (store .entry); soft = now (soft .entry) })) × (Leads n i t) ⌝ }
 {
     let left = n - i;
     let m = ready::calm(r, left);
@@ -175,6 +196,30 @@ fn turn(
     }
 }
 
+// .. of a receiver that was handed in, or left by the symbols before: one whose numbers do not fit together may leave their range.
+fn next(
+    r: Receiver,
+    i: usize,
+    n: usize,
+    bytes: &[i8],
+    f: &[i8; 48],
+    s: &[i8; 48],
+    rows: &[i16; 192],
+    table: &[i16],
+    acc: &mut [u32],
+    store: &mut [i16],
+    soft: &mut [i8],
+) -> Turn
+    requires { ⌜ (i < n) × (n ≡ length (now bytes) / 2) × (now rows ≡ rowsOf (now f) (now s)) × (Stands (length (now acc)) (length (now store)) (length (now soft)) (now f) (now s) (length (now table))) × (i ≡ 0 → receiverInRange r ≡ true) ⌝ }
+    ensures { λ t. ⌜ (restBy (record { bytes = now (bytes .entry); f = now (f .entry); s = now (s .entry); table = now (table .entry) }) n t (record { acc = now (acc .exit); store = now (store .exit); soft = now (soft .exit) }) ≡ standFrom (record { bytes = now (bytes .entry); f = now (f .entry); s = now (s .entry); table = now (table .entry) }) (n - i) i r (record { acc = now (acc .entry); store = now (store .entry); soft = now (soft .entry) })) × (Leads n i t) ⌝ }
+{
+    if ready::still(r, i) {
+        turn(r, i, n, bytes, f, s, rows, table, acc, store, soft)
+    } else {
+        stopped(6, r, i)
+    }
+}
+
 // n, or where a turn stops the feed.
 fn until(t: Turn, n: usize) -> usize
     ensures { λ r. ⌜ r ≡ (if t .done then t .used else n) ⌝ }
@@ -188,16 +233,16 @@ fn until(t: Turn, n: usize) -> usize
 pub(crate) fn all(
     r: Receiver,
     bytes: &[i8],
-    f: [i8; 48],
-    s: [i8; 48],
+    f: &[i8; 48],
+    s: &[i8; 48],
     rows: &[i16; 192],
     table: &[i16],
     acc: &mut [u32],
     store: &mut [i16],
     soft: &mut [i8],
 ) -> Turn
-    requires { ⌜ (now rows ≡ rowsOf f s) × (Stands (length (now acc)) (length (now store)) (length (now soft)) f s (length (now table))) ⌝ }
-    ensures { λ t. ⌜ restBy (record { bytes = now (bytes .entry); f = f; s = s; table = now (table .entry) }) (t .used) t (record { acc = now (acc .exit); store = now (store .exit); soft = now (soft .exit) }) ≡ standFrom (record { bytes = now (bytes .entry); f = f; s = s; table = now (table .entry) }) (length (now (bytes .entry)) / 2) 0 r (record { acc = now (acc .entry); store = now (store .entry); soft = now (soft .entry) }) ⌝ }
+    requires { ⌜ (now rows ≡ rowsOf (now f) (now s)) × (Stands (length (now acc)) (length (now store)) (length (now soft)) (now f) (now s) (length (now table))) × (receiverInRange r ≡ true) ⌝ }
+    ensures { λ t. ⌜ restBy (record { bytes = now (bytes .entry); f = now (f .entry); s = now (s .entry); table = now (table .entry) }) (t .used) t (record { acc = now (acc .exit); store = now (store .exit); soft = now (soft .exit) }) ≡ standFrom (record { bytes = now (bytes .entry); f = now (f .entry); s = now (s .entry); table = now (table .entry) }) (length (now (bytes .entry)) / 2) 0 r (record { acc = now (acc .entry); store = now (store .entry); soft = now (soft .entry) }) ⌝ }
 {
     let n = bytes.len() / 2;
     let mut t = Turn {
@@ -212,7 +257,7 @@ pub(crate) fn all(
     let mut end = n;
     while i < end {
         let x = t.receiver;
-        t = turn(x, i, n, bytes, f, s, rows, table, acc, store, soft);
+        t = next(x, i, n, bytes, f, s, rows, table, acc, store, soft);
         i = t.used;
         end = until(t, n);
     }

@@ -4,7 +4,7 @@ use mathlib.Core.Bool.{true, _&&_}
 use mathlib.Core.List.{List}
 use mathlib.Core.Path.{_≡_, sym, _∙_}
 use native.Mathlib.Omega.{arith}
-use borrow.Author.Tests.{eqb-true, leb-false, leb-true, lt-leb, ltb-false}
+use borrow.Author.Tests.{eq-eqb, eqb-true, le-leb, leb-false, leb-true, lt-leb, ltb-false}
 use lib.Dec.{eqb, leb, ltb}
 use lib.IntN.{ℤ}
 use lib.ListN.{length}
@@ -97,6 +97,11 @@ soon-known r acc store soft f s table h =
     (λ c. no 2 (sym (if-no (eqb table 1024) n6 3 c) ∙ h2)))
     (λ b. no 1 (sym (if-no (onesOf f && onesOf s) n3 2 b) ∙ h1)))
     (λ a. no 0 (sym (if-no fit n2 1 a) ∙ h))
+
+pub known-soon : (r : Receiver) (acc store soft : ℕ) (f s : List ℤ) (table : ℕ) → Soon r acc store soft f s table → soonRefusal r acc store soft f s table ≡ 0
+unfolding soonRefusal stateRefusal if_then_else_
+known-soon r acc store soft f s table k =
+    rw (eq-eqb acc 9296 (k .long), eq-eqb store 18592 (k .held), le-leb 44880 soft (k .buffer), k .first, k .second, eq-eqb table 1024 (k .cosines), k .within, lt-leb (2 ^ 62) (nextOf r) (k .next))
 
 -- ---- a slot that is due
 pub due-is : (r : Receiver) (w : WholeSlot) (f s table store : List ℤ) → BackOk (r .back) →

@@ -2,6 +2,7 @@
 mod after;
 mod heads;
 mod looks;
+pub mod ranged;
 mod refusals;
 mod slots;
 
@@ -35,10 +36,7 @@ pub fn symbol(
 {
     let n = refusals::soon(r, acc.len(), store.len(), soft.len(), &f, &s, table.len());
     if n == 0 {
-        let y = r.front.sync.run;
-        let p = sync_step::ranged::place(y.t);
-        let a = looks::look(r, xi, xq, &f, &s, table, acc[p]);
-        slots::go_on(r, a, p, &f, &s, table, acc, store, soft)
+        ranged::known(r, xi, xq, &f, &s, table, acc, store, soft)
     } else {
         refusals::refused(n, r)
     }

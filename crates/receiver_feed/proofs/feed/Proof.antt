@@ -15,8 +15,9 @@ rows-requires c κs = search needs
 
 all-requires : tie.Need-all-requires
 all-requires c κs =
-    let a = c .before .before .before .before .before .before .before .before .before .before .before .before .args in
-    (c .before .before .before .before .rows .ensures, standing-known (a .r) (length (now (a .acc))) (length (now (a .store))) (length (now (a .soft))) (a .t3) (a .t4) (length (now (a .table))) (sym (c .before .before .before .before .before .before .before .before .standing .ensures) ∙ c .before .before .before .before .before .before .before .if1 .taken))
+    let a = c .before .before .before .before .before .before .before .before .before .before .before .before .before .before .args in
+    let k = standing-known (a .r) (length (now (a .acc))) (length (now (a .store))) (length (now (a .soft))) (a .t3) (a .t4) (length (now (a .table))) (sym (c .before .before .before .before .before .before .before .before .before .before .standing .ensures) ∙ c .before .before .before .before .before .before .before .before .before .if1 .taken) in
+    (c .before .before .before .before .before .before .rows .ensures, k .0, k .1)
 
 answer-requires : tie.Need-answer-requires
 answer-requires c κs = search needs
@@ -35,8 +36,8 @@ same-length-3 c = search needs
 
 returns : tie.Need-returns
 returns c =
-    let a = c .before .before .before .before .before .before .before .before .before .before .before .before .before .before .before .before .before .before .args in
-    let g = feed-end (a .r) (record { bytes = now (a .bytes); f = a .t3; s = a .t4; table = now (a .table) }) (record { acc = now (a .acc); store = now (a .store); soft = now (a .soft) }) (sym (c .before .before .before .before .before .before .before .before .before .before .before .before .before .before .standing .ensures) ∙ c .before .before .before .before .before .before .before .before .before .before .before .before .before .if1 .taken) _ _ (c .before .before .before .before .before .all .ensures) in
+    let a = c .before .before .before .before .before .before .before .before .before .before .before .before .before .before .before .before .before .before .before .before .args in
+    let g = feed-end (a .r) (record { bytes = now (a .bytes); f = a .t3; s = a .t4; table = now (a .table) }) (record { acc = now (a .acc); store = now (a .store); soft = now (a .soft) }) (sym (c .before .before .before .before .before .before .before .before .before .before .before .before .before .before .before .before .standing .ensures) ∙ c .before .before .before .before .before .before .before .before .before .before .before .before .before .before .before .if1 .taken) _ _ (c .before .before .before .before .before .all .ensures) in
     (c .answer .ensures ∙ g .0, g .1, g .2, g .3)
 
 returns-2 : tie.Need-returns-2

@@ -144,6 +144,7 @@ returns c =
       some-moved (tallyWithin (h .y)) (o .args .n) (h .k) (h .end) (v .2) (omega (arith, c .loop-test)) (o .pre .7) (λ z. rw (first-fits _ _ _ _ _ _ _ _ _ _ _ (v .3) z) (o .pre .10)),
       v .0,
       (λ j l. rw e at (v .4 j l)),
+      v .5,
     )
 
 pub quiet-spec : {M : Type 1} → statement M

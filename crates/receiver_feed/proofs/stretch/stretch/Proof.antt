@@ -6,7 +6,7 @@ use denote.Ref.{now}
 use mir.Facts.{toZ-ofZ}
 use mir.Syntax.{w32}
 use Rattle.receiver_feed.specs.Quiet.{Fits, Moving, passedBy}
-use Rattle.receiver_feed.proofs.Calm.{moves-from, passed-any, place-in, tally-in, window-in}
+use Rattle.receiver_feed.proofs.Calm.{figures-in, moves-from, passed-any, place-in, tally-in, window-in}
 use borrow.Author.Needs.{needs}
 use Rattle.receiver_feed.proofs.stretch.stretch.Statement.{statement}
 use Rattle.receiver_feed.proofs.stretch.stretch.Tie as tie
@@ -50,7 +50,8 @@ same-length-2 c = search needs
 
 returns : tie.Need-returns
 returns c =
-    let a = c .before .before .before .before .before .before .before .before .before .before .before .before .before .before .before .before .before .args in
+    let o = c .before .before .before .before .before .before .before .before .before .before .before .before .before .before .before .before .before in
+    let a = o .args in
     let q = c .before .before .before .before .moved in
     let w = c .before .before .before .before .before .before .before .before .before .before .window-of .ensures .0 in
     let f = toZ-ofZ {w = w32} (record { sfits = c .before .before .before .before .before .before .before .before .freq-of .ok }) ∙ c .before .before .before .before .before .before .before .before .freq-of .ensures in
@@ -62,6 +63,7 @@ returns c =
       q .ensures .1,
       q .ensures .2,
       (λ j l. subst Fits (moves-from (a .r) (now (a .bytes)) (now (a .table)) (now (a .rows)) (now (a .acc)) (now (a .store)) (a .i) _ _ j ep refl) (rw (w, f) at (q .ensures .3 j l))),
+      rw (c .passed .ensures) (figures-in (a .r) (q .result .taken) _ (o .pre .0) (q .ensures .4) (omega (arith, q .ensures .2, o .pre .1 .time))),
     )
 
 pub stretch-spec : {M : Type 1} → statement M

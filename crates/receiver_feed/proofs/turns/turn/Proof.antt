@@ -1,12 +1,12 @@
 -- What tells nothing, then a symbol; or one of both. Assumes nothing.
 use Prim.Native.Nat.{_-_}
-use mathlib.Core.Path.{_≡_, sym, ap, _∙_}
+use mathlib.Core.Path.{_≡_, refl, sym, ap, _∙_}
 use native.Mathlib.Omega.{arith}
 use denote.Ref.{now}
 use Rattle.sync_corr.proofs.Laws.{rows-unit}
 use Rattle.receiver_feed.specs.Turns.{calmOf}
-use Rattle.receiver_feed.proofs.Calm.{calm-known}
-use Rattle.receiver_feed.proofs.Stand.{both-end, stretch-end, stretch-left}
+use Rattle.receiver_feed.proofs.Calm.{calm-known, tally-in}
+use Rattle.receiver_feed.proofs.Stand.{both-end, stands-same, stretch-end, stretch-left}
 use borrow.Author.Needs.{needs}
 use Rattle.receiver_feed.proofs.turns.turn.Statement.{statement}
 use Rattle.receiver_feed.proofs.turns.turn.Tie as tie
@@ -18,14 +18,14 @@ calm-requires : tie.Need-calm-requires
 calm-requires c κs = search needs
 
 single-requires : tie.Need-single-requires
-single-requires c κs = search needs
+single-requires c κs = let o = c .before .before .before .before .before .before in (o .pre .0, o .pre .1, o .pre .3, o .pre .4 ∙ sym (tally-in (o .args .r) (o .pre .4)))
 
 stretch-requires : tie.Need-stretch-requires
 stretch-requires c κs =
     let o = c .before .before .before .before .before .before in
     let p = o .pre in
     let k = calm-known (o .args .r) _ _ (c .before .before .before .before .calm .ensures) (c .before .before .before .if1 .left) in
-    (k .0, k .1, omega (arith, c .before .before .before .if1 .left), omega (arith, k .2, p .0, p .1), rw (p .2) (rows-unit (o .args .f) (o .args .s) (p .3 .first) (p .3 .second)), p .3 .cosines, p .3 .long, p .3 .held)
+    (k .0, k .1, omega (arith, c .before .before .before .if1 .left), omega (arith, k .2, p .0, p .1), rw (p .2) (rows-unit (now (o .args .f)) (now (o .args .s)) (p .3 .first) (p .3 .second)), p .3 .cosines, p .3 .long, p .3 .held)
 
 add-single : tie.Need-add-single
 add-single c =
@@ -38,8 +38,8 @@ single-requires-2 : tie.Need-single-requires-2
 single-requires-2 c κs =
     let o = c .before .before .before .before .before .before .before .before .before .before .before .before .before .before .before in
     let p = o .pre in
-    let k = calm-known (o .args .r) _ _ (c .before .before .before .before .before .before .before .before .before .before .before .before .before .calm .ensures) (c .before .before .before .before .before .before .before .before .before .before .before .before .if1 .left) in
-    (omega (arith, c .before .before .before .before .before .before .before .before .stretch .ensures .4, c .before .before .before .before .before .before .before .before .before .before .before .if2 .taken, p .0), p .1)
+    let g = c .before .before .before .before .before .before .before .before .stretch in
+    (omega (arith, g .ensures .4, c .before .before .before .before .before .before .before .before .before .before .before .if2 .taken, p .0), p .1, stands-same _ _ _ _ _ _ _ _ _ (g .kept .1 .1 .1 .1 .1 .1 .0) (g .kept .1 .1 .1 .1 .1 .1 .1 .0) refl (p .3), g .ensures .6)
 
 stretch-requires-2 : tie.Need-stretch-requires-2
 stretch-requires-2 c κs =
@@ -49,7 +49,7 @@ stretch-requires-2 c κs =
     let w : o .args .n - o .args .i ≡ c .before .before .before .before .calm .result = omega (arith, k .2, c .before .before .if2 .left) in
     let e : o .args .n - o .args .i ≡ calmOf (o .args .r) (o .args .n - o .args .i) = w ∙ c .before .before .before .before .calm .ensures in
     let j = calm-known (o .args .r) _ _ e (λ z. c .before .before .before .if1 .left (sym w ∙ z)) in
-    (j .0, j .1, omega (arith, p .0), omega (arith, p .0, p .1), rw (p .2) (rows-unit (o .args .f) (o .args .s) (p .3 .first) (p .3 .second)), p .3 .cosines, p .3 .long, p .3 .held)
+    (j .0, j .1, omega (arith, p .0), omega (arith, p .0, p .1), rw (p .2) (rows-unit (now (o .args .f)) (now (o .args .s)) (p .3 .first) (p .3 .second)), p .3 .cosines, p .3 .long, p .3 .held)
 
 add-t43 : tie.Need-add-t43
 add-t43 c = let o = c .before .before .before .before .before .before .before .before .before .before .before .before in omega (arith, c .before .before .before .before .before .stretch2 .ensures .4, o .pre .0, o .pre .1, o .good .1 .1 .1 .0 .0)
@@ -87,7 +87,7 @@ returns-2 c =
     let a = o .args in
     let g = c .before .before .before .before .before .before .before .before .before .before .before .before .before .stretch .ensures in
     both-end _ _ _ _ _ _ _ _ _ _
-    (stretch-left (record { bytes = now (a .bytes); f = a .f; s = a .s; table = now (a .table) }) (a .n) (a .i) (a .r) (now (a .acc)) (now (a .store)) (now (a .soft)) _ _ _ _ _ _ (o .pre .0)
+    (stretch-left (record { bytes = now (a .bytes); f = now (a .f); s = now (a .s); table = now (a .table) }) (a .n) (a .i) (a .r) (now (a .acc)) (now (a .store)) (now (a .soft)) _ _ _ _ _ _ (o .pre .0)
     (c .before .before .before .before .before .before .before .before .before .before .before .before .before .before .before .before .before .before .calm .ensures) (c .before .before .before .before .before .before .before .before .before .before .before .before .before .before .before .before .before .if1 .left) (o .pre .3) (o .pre .2) (g .0) (g .1) (g .2) (g .4) (g .5))
     (c .before .before .before .before .single2 .ensures)
 
@@ -106,7 +106,7 @@ returns-3 c =
     let e : o .args .n - o .args .i ≡ calmOf (o .args .r) (o .args .n - o .args .i) = w ∙ c .before .before .before .before .before .before .before .before .before .before .before .before .calm .ensures in
     let a = o .args in
     let g = c .before .before .before .before .before .before .before .stretch2 .ensures in
-    stretch-end (record { bytes = now (a .bytes); f = a .f; s = a .s; table = now (a .table) }) (a .n) (a .i) (a .r) (now (a .acc)) (now (a .store)) (now (a .soft)) _ _ _ _ _ _ _ _ (o .pre .0)
+    stretch-end (record { bytes = now (a .bytes); f = now (a .f); s = now (a .s); table = now (a .table) }) (a .n) (a .i) (a .r) (now (a .acc)) (now (a .store)) (now (a .soft)) _ _ _ _ _ _ _ _ (o .pre .0)
     e (λ z. c .before .before .before .before .before .before .before .before .before .before .before .if1 .left (sym w ∙ z)) (o .pre .3) (o .pre .2) (g .0) (g .1) (g .2) (g .3) (g .4) (g .5)
 
 pub turn-spec : {M : Type 1} → statement M

@@ -23,4 +23,5 @@ stop-spec =
     add-t10
     returns
     returns-2)
+
 -- t
