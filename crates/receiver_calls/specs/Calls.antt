@@ -10,7 +10,7 @@ use Rattle.wire.specs.Wire.{packedOf}
 use Rattle.fields.specs.Fields.{at, at8, at32, signed64, sixteensOf, onesAt, leastOf, fourTold}
 use Rattle.eq_calls.specs.Turns.{turnOf as eqTurnOf}
 use Rattle.receiver_state.specs.Turns.{turnOf as stateTurnOf}
-use Rattle.receiver_play.specs.declared.Played.{Played}
+use Rattle.receiver_feed.specs.declared.Fed.{Fed}
 use Rattle.receiver_calls.specs.declared.kept.Kept.{Kept}
 use Rattle.receiver_calls.specs.declared.kept.Turn.{Turn}
 use Rattle.receiver_calls.specs.Kept.{withReceiver, withPlayed, withWords, turned}
@@ -62,5 +62,5 @@ unfoldable pub eventCall : Kept → List ℕ → Turn
 eventCall k p = turned k (eventTold (eventAt (k .events) (at p 1)))
 
 -- ---- what a play leaves and tells
-unfoldable pub playedTurn : Kept → Played → Turn
+unfoldable pub playedTurn : Kept → Fed → Turn
 playedTurn k a = turned (withPlayed k (a .receiver) (a .events)) (playedTold a)

@@ -9,7 +9,7 @@ use Rattle.receiver.specs.declared.Ended.{Ended}
 use Rattle.fields.specs.Fields.{flagOf, fourTold}
 use Rattle.phase_wire.specs.Told.{headTold}
 use Rattle.eq_calls.specs.Told.{sumsShown}
-use Rattle.receiver_play.specs.declared.Played.{Played}
+use Rattle.receiver_feed.specs.declared.Fed.{Fed}
 
 -- ---- events, each with its kind and all its fields
 unfoldable pub periodTold : SyncStats → List ℕ
@@ -40,7 +40,7 @@ kindOf (Period p) = 2
 kindOf (Lost at) = 3
 
 -- ---- a play: refusal, symbols taken, the kinds of its events, both runs
-unfoldable pub playedTold : Played → List ℕ
+unfoldable pub playedTold : Fed → List ℕ
 playedTold a =
     let t = a .runs .tail in
     let b = a .runs .body in

@@ -7,7 +7,7 @@ mod told;
 use kept::Kept;
 use kept::Turn;
 use receiver::Answered;
-use receiver_play::Played;
+use receiver_feed::Fed;
 ghost use mathlib.Core.Path.{_≡_};
 ghost use Rattle.receiver_calls.specs.Calls.{plain, answeredTurn, playedTurn};
 ghost use Rattle.receiver_calls.specs.Turns.{plainOf, turnOf};
@@ -28,7 +28,7 @@ pub fn answered(k: Kept, a: Answered) -> Turn
 }
 
 // What a play leaves and tells.
-pub fn played(k: Kept, a: Played) -> Turn
+pub fn played(k: Kept, a: Fed) -> Turn
     ensures { λ r. ⌜ r ≡ playedTurn k a ⌝ }
 {
     let r = a.receiver;

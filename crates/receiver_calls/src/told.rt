@@ -1,6 +1,6 @@
 // Answers as 24 numbers: the refusal, the answer's numbers, and zeros behind them. A negative number is 2^64 more.
 use receiver::Ended;
-use receiver_play::Played;
+use receiver_feed::Fed;
 use sync_step::Event;
 use sync_step::SyncStats;
 ghost use mathlib.Core.Path.{_≡_};
@@ -61,7 +61,7 @@ fn kind(e: Event) -> u64
 }
 
 // What a play comes to: the kinds of its events, and the runs.
-pub(crate) fn played(a: Played) -> [u64; 24]
+pub(crate) fn played(a: Fed) -> [u64; 24]
     ensures { λ r. ⌜ r ≡ playedTold a ⌝ }
 {
     let es = a.events;

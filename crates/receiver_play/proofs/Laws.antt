@@ -9,7 +9,7 @@ use Rattle.receiver.specs.declared.Answer.{Answer}
 use Rattle.receiver.specs.Symbol.{Lent}
 use Rattle.receiver.specs.Answers.{symbolAnswer, symbolLent}
 use Rattle.receiver.specs.Feed.{Block, inputAt}
-use Rattle.receiver_play.specs.declared.Played.{Played}
+use Rattle.receiver_feed.specs.declared.Fed.{Fed}
 use Rattle.receiver_play.specs.Play.{Course, course, stopsAt, stopped, quiet, playFrom}
 
 -- ---- a play: one symbol more
@@ -22,7 +22,7 @@ unfolding playFrom
 play-on b k i r l h = rw (add-one k) (if-no _ _ _ h)
 
 -- it ends the play, whose whole is known ..
-pub told-stop : (b : Block) (k m i : ℕ) (r : Receiver) (l n : Lent) (a : Answer) (p : Played) (whole : Course) → m ≡ k + 1 → playFrom b m i r l ≡ whole → a ≡ symbolAnswer r (inputAt b i) l → n ≡ symbolLent r (inputAt b i) l → stopsAt a ≡ true → p ≡ stopped i a → (p ≡ whole .told) × (n ≡ whole .lent)
+pub told-stop : (b : Block) (k m i : ℕ) (r : Receiver) (l n : Lent) (a : Answer) (p : Fed) (whole : Course) → m ≡ k + 1 → playFrom b m i r l ≡ whole → a ≡ symbolAnswer r (inputAt b i) l → n ≡ symbolLent r (inputAt b i) l → stopsAt a ≡ true → p ≡ stopped i a → (p ≡ whole .told) × (n ≡ whole .lent)
 told-stop b k m i r l n a p whole em ew ea en es ep =
     let w : playFrom b (k + 1) i r l ≡ whole = rw em at ew in
     let g = sym (play-stop b k i r l (rw ea at es)) ∙ w in
@@ -35,6 +35,6 @@ told-on b k m i r l n a whole em ew ea en es =
     rw (ea, en) (sym (play-on b k i r l (rw ea at es)) ∙ w)
 
 -- none is left
-pub told-quiet : (b : Block) (m i : ℕ) (r : Receiver) (l : Lent) (p : Played) (whole : Course) → m ≡ 0 → playFrom b m i r l ≡ whole → p ≡ quiet i r → (p ≡ whole .told) × (l ≡ whole .lent)
+pub told-quiet : (b : Block) (m i : ℕ) (r : Receiver) (l : Lent) (p : Fed) (whole : Course) → m ≡ 0 → playFrom b m i r l ≡ whole → p ≡ quiet i r → (p ≡ whole .told) × (l ≡ whole .lent)
 unfolding playFrom
 told-quiet b m i r l p whole em ew ep = let g : course (quiet i r) l ≡ whole = rw em at ew in (rw (ep, ← g), rw (← g))

@@ -12,7 +12,6 @@ use Rattle.receiver.specs.Symbol.{Lent}
 use Rattle.receiver.specs.Answers.{noRuns, symbolAnswer, symbolLent}
 use Rattle.receiver.specs.Feed.{Block, inputAt, tellsAny}
 use Rattle.receiver_feed.specs.declared.Fed.{Fed}
-use Rattle.receiver_play.specs.declared.Played.{Played}
 
 abbrev pub block : List ℤ → List ℤ → List ℤ → List ℤ → Block
 block x f s table = record { bytes = x; f = f; s = s; table = table }
@@ -25,7 +24,7 @@ unfoldable pub stopsAt : Answer → Bool
 stopsAt a = not (eqb (a .refusal) 0) || tellsAny a
 
 -- what is answered then, after i symbols taken: one that is refused is not taken
-unfoldable pub stopped : ℕ → Answer → Played
+unfoldable pub stopped : ℕ → Answer → Fed
 stopped i a =
     record {
       refusal = a .refusal;
@@ -36,14 +35,14 @@ stopped i a =
     }
 
 -- nothing told in i symbols
-unfoldable pub quiet : ℕ → Receiver → Played
+unfoldable pub quiet : ℕ → Receiver → Fed
 quiet i r = record { refusal = 0; used = i; receiver = r; events = noEvents; runs = noRuns }
 
 pub record Course : Type 0 where
-  pub told : Played
+  pub told : Fed
   pub lent : Lent
 
-abbrev pub course : Played → Lent → Course
+abbrev pub course : Fed → Lent → Course
 course p l = record { told = p; lent = l }
 
 -- k symbols from symbol i on
@@ -53,7 +52,3 @@ playFrom b (suc k) i r l =
     let a = symbolAnswer r (inputAt b i) l in
     let m = symbolLent r (inputAt b i) l in
     if stopsAt a then course (stopped i a) m else playFrom b k (i + 1) (a .receiver) m
-
--- ---- what one call of `feed` answers, as a play
-unfoldable pub fedOf : Fed → Played
-fedOf a = record { refusal = a .refusal; used = a .used; receiver = a .receiver; events = a .events; runs = a .runs }

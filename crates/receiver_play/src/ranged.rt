@@ -1,9 +1,9 @@
 // For the program, which gives no more symbols than a call has.
-use crate::Played;
 use crate::still;
 use crate::stops;
 use receiver::Answer;
 use receiver::Receiver;
+use receiver_feed::Fed;
 ghost use mathlib.Core.Path.{_≡_};
 ghost use Prim.Native.Nat.{_≤_, _<_};
 ghost use Rattle.receiver.specs.Answers.{symbolAnswer, symbolLent};
@@ -11,14 +11,14 @@ ghost use Rattle.receiver.specs.Feed.{inputAt};
 ghost use Rattle.receiver_play.specs.Play.{block, lentOf, stopped, playFrom};
 
 // The answer after i symbols taken.
-fn stop(a: Answer, i: usize) -> Played
+fn stop(a: Answer, i: usize) -> Fed
     requires { ⌜ i < 72 ⌝ }
     ensures { λ r. ⌜ r ≡ stopped i a ⌝ }
 {
     let r = a.receiver;
     let e = a.events;
     let w = a.runs;
-    Played {
+    Fed {
         refusal: a.refusal,
         used: if a.refusal == 0 { i + 1 } else { i },
         receiver: r,
@@ -57,7 +57,7 @@ pub fn play(
     acc: &mut [u32],
     store: &mut [i16],
     soft: &mut [i8],
-) -> Played
+) -> Fed
     requires { ⌜ n ≤ 72 ⌝ }
     ensures { λ a. ⌜ (a ≡ playFrom (block (now (x .entry)) f s (now (table .entry))) n 0 r (lentOf (now (acc .entry)) (now (store .entry)) (now (soft .entry))) .told)
         × (lentOf (now (acc .exit)) (now (store .exit)) (now (soft .exit)) ≡ playFrom (block (now (x .entry)) f s (now (table .entry))) n 0 r (lentOf (now (acc .entry)) (now (store .entry)) (now (soft .entry))) .lent) ⌝ }

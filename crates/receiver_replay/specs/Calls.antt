@@ -9,7 +9,7 @@ use Rattle.receiver.specs.Answers.{newAnswer, newAcc, restartAnswer, restartAcc
 use Rattle.wire.specs.Wire.{packedOf}
 use Rattle.digest.specs.Digest.{digestOf, naturalsOf}
 use Rattle.fields.specs.Fields.{at, signed32, leastOf, fourTold}
-use Rattle.receiver_play.specs.Play.{Course, block, lentOf, playFrom, fedOf}
+use Rattle.receiver_play.specs.Play.{Course, block, lentOf, playFrom}
 use Rattle.receiver_calls.specs.declared.kept.Kept.{Kept}
 use Rattle.receiver_calls.specs.declared.kept.Turn.{Turn}
 use Rattle.receiver_calls.specs.Kept.{turned}
@@ -76,5 +76,5 @@ feedCall p a =
     let b = fedBlock (a .kept) p (a .table) in
     let l = lentOf (take (at p 3) (a .acc)) (take (at p 4) (a .store)) (take (at p 5) (a .soft)) in
     let m = feedOf (a .kept .receiver) b l .lent in
-    moved (playedTurn (a .kept) (fedOf (feedAnswer (a .kept .receiver) b l))) (a .table) (m .acc ++ drop (at p 3) (a .acc)) (m .store ++ drop (at p 4) (a .store))
+    moved (playedTurn (a .kept) (feedAnswer (a .kept .receiver) b l)) (a .table) (m .acc ++ drop (at p 3) (a .acc)) (m .store ++ drop (at p 4) (a .store))
     (m .soft ++ drop (at p 5) (a .soft))

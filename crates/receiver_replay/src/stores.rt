@@ -87,7 +87,7 @@ pub(crate) fn feed(
     let r = k.receiver;
     let f = k.f;
     let s = k.s;
-    let d = receiver_play::feed(
+    let d = receiver_feed::feed(
         r,
         &x[..m],
         f,

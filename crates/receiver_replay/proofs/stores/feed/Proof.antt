@@ -87,8 +87,9 @@ same-length-3 c = search needs
 returns : tie.Need-returns
 returns c =
     let s = c .before .before .before .before .before .before .before .before .before .before .before .before .before .before .before .before .before .before .before .before .before .before .before .before .before .before .before .before .args in
+    let e = c .before .before .before .before .before .feed .ensures in
     fed-is (s .k) (s .p .now) (s .table .now) (s .acc .now) (s .store .now) (s .soft .now) _ _ _ _ _ _ _ _ _ _ _ _
-    (c .before .before .before .before .before .before .before .before .before .before .before .before .before .before .before .before .before .before .before .before .before .before .least .ensures .0) (c .before .before .before .before .before .before .before .before .before .before .before .before .before .before .before .before .before .before .before .before .least2 .ensures .0) (c .before .before .before .before .before .before .before .before .before .before .before .before .before .before .before .before .before .before .least3 .ensures .0) (c .before .before .before .before .before .before .before .before .before .before .before .before .before .before .before .before .least4 .ensures .0) (c .before .before .before .before .before .before .before .before .before .before .before .before .before .before .least5 .ensures .0) (c .before .before .before .before .before .before .before .before .before .before .before .before .before .before .before .before .before .before .before .before .before .before .before .before .symbols .ensures) (c .before .before .before .before .before .before .before .before .before .before .before .before .before .before .before .before .before .before .before .before .before .before .before .before .before .before .packed .ensures) (c .before .before .before .before .before .feed .ensures .0) (c .before .before .before .before .before .feed .ensures .1) (c .played .ensures)
+    (c .before .before .before .before .before .before .before .before .before .before .before .before .before .before .before .before .before .before .before .before .before .before .least .ensures .0) (c .before .before .before .before .before .before .before .before .before .before .before .before .before .before .before .before .before .before .before .before .least2 .ensures .0) (c .before .before .before .before .before .before .before .before .before .before .before .before .before .before .before .before .before .before .least3 .ensures .0) (c .before .before .before .before .before .before .before .before .before .before .before .before .before .before .before .before .least4 .ensures .0) (c .before .before .before .before .before .before .before .before .before .before .before .before .before .before .least5 .ensures .0) (c .before .before .before .before .before .before .before .before .before .before .before .before .before .before .before .before .before .before .before .before .before .before .before .before .symbols .ensures) (c .before .before .before .before .before .before .before .before .before .before .before .before .before .before .before .before .before .before .before .before .before .before .before .before .before .before .packed .ensures) (e .0) (e .1) (e .2) (e .3) (c .played .ensures)
 
 pub feed-spec : {M : Type 1} → statement M
 feed-spec =
