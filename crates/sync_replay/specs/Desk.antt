@@ -5,11 +5,12 @@ use lib.Dec.{ltb}
 use lib.IntN.{ℤ}
 use lib.ListN.{length, getD, set}
 use Rattle.laws.specs.Choice.{if_then_else_}
+use Rattle.fields.specs.Fields.{onesAt}
 use Rattle.sync.specs.declared.SlotSync.{SlotSync}
 use Rattle.sync.specs.Answers.{newAnswer, restartAnswer, pushAnswer, pushAcc}
 use Rattle.sync_replay.specs.declared.desk.Desk.{Desk}
-use Rattle.sync_replay.specs.Digest.{mixedTo}
-use Rattle.sync_replay.specs.Given.{wordOf, stateOf}
+use Rattle.sync_replay.specs.Mixing.{mixedTo}
+use Rattle.sync_replay.specs.Given.{stateOf}
 use Rattle.sync_replay.specs.Told.{answerOf, refusedOf, notedOf}
 
 unfoldable pub putOf : List ℕ → ℕ → ℕ → List ℕ
@@ -18,11 +19,8 @@ putOf p n v = if ltb n 192 then set p n v else p
 unfoldable pub setOf : List ℕ → ℕ → ℕ → List ℕ
 setOf acc n v = if ltb n (length acc) then set acc n v else acc
 
-unfoldable pub leastOf : ℕ → ℕ → ℕ
-leastOf n all = if ltb n all then n else all
-
 unfoldable pub wordsOf : Desk → List ℕ → Desk
-wordsOf d p = record { sync = d .sync; f = wordOf p 0; s = wordOf p 48; told = d .told }
+wordsOf d p = record { sync = d .sync; f = onesAt p 0; s = onesAt p 48; told = d .told }
 
 -- the same words, a sync and an answer
 unfoldable pub afterOf : Desk → SlotSync → List ℕ → Desk

@@ -1,56 +1,39 @@
 -- Words and states as the places hold them: 0 to 47 the F word, 48 to 95 the S word, 96 to 143 the window, 144 on the state.
-use Prim.Native.Nat.{ℕ, _+_, _*_, _%_, _^_}
+use Prim.Native.Nat.{ℕ, _+_, _*_, _^_}
 use mathlib.Core.List.{List}
-use lib.Dec.{eqb, ltb}
+use lib.Dec.{eqb}
 use lib.IntN.{ℤ}
-use lib.ListN.{getD}
 use Rattle.laws.specs.Choice.{if_then_else_}
 use Rattle.laws.specs.Ranges.{firsts}
-use Rattle.sync_corr.specs.declared.Corr.{Corr}
 use Rattle.sync_lock.specs.declared.Tally.{Tally}
 use Rattle.sync_lock.specs.declared.Lock.{Lock}
 use Rattle.sync_lock.specs.declared.Lock.the-variants.{Search, Locked}
 use Rattle.sync_heads.specs.declared.Stage.{Stage}
 use Rattle.sync_heads.specs.declared.Stage.the-variants.{Before, First, Known}
-use Rattle.sync_heads.specs.declared.Slot.{Slot}
-use Rattle.sync_heads.specs.declared.Slot.the-variants.{Unknown, In}
 use Rattle.sync_heads.specs.declared.Record.{Record}
 use Rattle.sync_heads.specs.declared.Record.the-variants.{Never, Last}
 use Rattle.sync_heads.specs.declared.Course.{Course}
 use Rattle.sync_step.specs.declared.Run.{Run}
 use Rattle.sync.specs.declared.SlotSync.{SlotSync}
-use Rattle.sync_replay.specs.Wire.{signed}
-
--- place k
-abbrev pub at : List ℕ → ℕ → ℕ
-at p k = getD p k 0
+use Rattle.fields.specs.Fields.{at, at16, at32, signed16, signed32, on}
+use Rattle.slot_wire.specs.Slots.{slotOf, corrOf}
 
 -- the number of two places, the low half first
 unfoldable pub wideAt : List ℕ → ℕ → ℕ
-wideAt p k = at p k + 2 ^ 32 * at p (k + 1)
-
--- entry i of the word from place k on, and the word
-unfoldable pub wordEntry : List ℕ → ℕ → ℕ → ℤ
-wordEntry p k i = signed (2 ^ 7) (at p (k + i) % 2 ^ 8)
-
-unfoldable pub wordOf : List ℕ → ℕ → List ℤ
-wordOf p k = firsts (wordEntry p k) 48
+wideAt p k = at32 p k + 2 ^ 32 * at32 p (k + 1)
 
 unfoldable pub windowEntry : List ℕ → ℕ → ℤ
-windowEntry p i = signed (2 ^ 15) (at p (96 + i) % 2 ^ 16)
+windowEntry p i = signed16 p (96 + i)
 
 unfoldable pub windowOf : List ℕ → List ℤ
 windowOf p = firsts (windowEntry p) 48
 
-unfoldable pub corrAt : List ℕ → ℕ → Corr
-corrAt p k = record { re = signed (2 ^ 31) (at p k); im = signed (2 ^ 31) (at p (k + 1)) }
-
 unfoldable pub tallyOf : List ℕ → Tally
-tallyOf p = record { peak = at p 148; place = at p 149 % 2 ^ 16; sum = wideAt p 150 }
+tallyOf p = record { peak = at32 p 148; place = at16 p 149; sum = wideAt p 150 }
 
 -- 0 searching, otherwise locked
 unfoldable pub lockOf : List ℕ → Lock
-lockOf p = if eqb (at p 152) 0 then Search (at p 153 % 2 ^ 16) (at p 154) else Locked (at p 153 % 2 ^ 16) (at p 154)
+lockOf p = if eqb (at p 152) 0 then Search (at16 p 153) (at32 p 154) else Locked (at16 p 153) (at32 p 154)
 
 -- 0 no head, 1 head zero held, otherwise the parity is known
 unfoldable pub stageOf : List ℕ → Stage
@@ -58,24 +41,21 @@ stageOf p =
     if eqb (at p 155) 0
     then Before
     else if eqb (at p 155) 1
-    then First (record { at = wideAt p 156; both = record { f = corrAt p 158; s = corrAt p 160 } })
-    else Known (record { odd = ltb 0 (at p 162); due = ltb 0 (at p 163); last = corrAt p 164 })
-
-unfoldable pub slotOf : List ℕ → Slot
-slotOf p = if eqb (at p 167) 0 then Unknown else In (at p 168 % 2 ^ 8) (at p 169)
+    then First (record { at = wideAt p 156; both = record { f = corrOf p 158; s = corrOf p 160 } })
+    else Known (record { odd = on p 162; due = on p 163; last = corrOf p 164 })
 
 unfoldable pub recordOf : List ℕ → Record
-recordOf p = if eqb (at p 170) 0 then Never else Last (wideAt p 171) (at p 173)
+recordOf p = if eqb (at p 170) 0 then Never else Last (wideAt p 171) (at32 p 173)
 
 unfoldable pub courseOf : List ℕ → Course
 courseOf p =
     record {
-      majority = signed (2 ^ 31) (at p 166);
-      slot = slotOf p;
+      majority = signed32 p 166;
+      slot = slotOf p 167;
       last = recordOf p;
-      misses = at p 174;
-      stray = at p 175;
-      missed = at p 176;
+      misses = at32 p 174;
+      stray = at32 p 175;
+      missed = at32 p 176;
     }
 
 unfoldable pub runOf : List ℕ → Run

@@ -1,14 +1,12 @@
 // What the calls act on, and what each does to it. Places and accumulators are lent.
-use crate::digest;
 use crate::given;
+use crate::mixing;
 use crate::told;
 use sync::SlotSync;
 ghost use mathlib.Core.Path.{_≡_};
-ghost use Prim.Native.Nat.{_≤_};
 ghost use lib.ListN.{length};
 ghost use Rattle.sync.specs.Answers.{newAcc, restartAcc, pushAcc};
-ghost use Rattle.sync_replay.specs.Given.{at};
-ghost use Rattle.sync_replay.specs.Desk.{putOf, setOf, leastOf, wordsOf, afterOf, startedOf, restartedOf, handedOf, foldedOf, unknownOf, pushedOf, st, pushesOf};
+ghost use Rattle.sync_replay.specs.Desk.{putOf, setOf, wordsOf, afterOf, startedOf, restartedOf, handedOf, foldedOf, unknownOf, pushedOf, st, pushesOf};
 
 // The sync, the words in force, and the last answer with the digest before it.
 pub struct Desk {
@@ -19,7 +17,7 @@ pub struct Desk {
 }
 
 // A number put to a place; there are 192.
-pub(crate) fn put(p: &mut [u32; 192], n: u32, v: u32)
+pub(crate) fn put(p: &mut [u64; 192], n: u64, v: u64)
     ensures { λ r. ⌜ now (p .exit) ≡ putOf (now (p .entry)) n v ⌝ }
 {
     if n < 192 {
@@ -28,30 +26,16 @@ pub(crate) fn put(p: &mut [u32; 192], n: u32, v: u32)
 }
 
 // An accumulator set.
-pub(crate) fn set(acc: &mut [u32], n: u32, v: u32)
+pub(crate) fn set(acc: &mut [u32], n: u64, v: u32)
     ensures { λ r. ⌜ now (acc .exit) ≡ setOf (now (acc .entry)) n v ⌝ }
 {
-    let k = n as usize;
-    if k < acc.len() {
-        acc[k] = v;
+    if n < (acc.len() as u64) {
+        acc[n as usize] = v;
     }
 }
 
-fn least(n: u32, all: usize) -> usize
-    ensures { λ r. ⌜ (r ≡ leastOf n all) × (r ≤ all) ⌝ }
-{
-    if (n as usize) < all { n as usize } else { all }
-}
-
-// How many accumulators are lent, of those that there are.
-pub(crate) fn lent(p: &[u32; 192], all: usize) -> usize
-    ensures { λ r. ⌜ (r ≡ leastOf (at (now (p .entry)) 177) all) × (r ≤ all) ⌝ }
-{
-    least(p[177], all)
-}
-
 // The words of the places.
-pub(crate) fn words(d: Desk, p: &[u32; 192]) -> Desk
+pub(crate) fn words(d: Desk, p: &[u64; 192]) -> Desk
     ensures { λ r. ⌜ r ≡ wordsOf d (now (p .entry)) ⌝ }
 {
     let f = given::word(p, 0);
@@ -99,7 +83,7 @@ pub(crate) fn restarted(d: Desk, at: u64, acc: &mut [u32]) -> Desk
 }
 
 // The state of the places.
-pub(crate) fn handed(d: Desk, p: &[u32; 192]) -> Desk
+pub(crate) fn handed(d: Desk, p: &[u64; 192]) -> Desk
     ensures { λ r. ⌜ r ≡ handedOf d (now (p .entry)) ⌝ }
 {
     let k = given::state_at(p);
@@ -122,7 +106,7 @@ pub(crate) fn folded(d: Desk, acc: &[u32]) -> Desk
     let f = d.f;
     let s = d.s;
     let mut t = d.told;
-    t[0] = digest::mixed_store(t[0], acc);
+    t[0] = mixing::mixed_store(t[0], acc);
     Desk {
         sync: k,
         f: f,
@@ -154,11 +138,11 @@ fn pushed(d: Desk, i: i16, q: i16, acc: &mut [u32]) -> Desk
 }
 
 // One symbol, n times.
-pub(crate) fn pushes(d: Desk, n: u32, i: i16, q: i16, acc: &mut [u32]) -> Desk
+pub(crate) fn pushes(d: Desk, n: u64, i: i16, q: i16, acc: &mut [u32]) -> Desk
     ensures { λ r. ⌜ st r (now (acc .exit)) ≡ pushesOf n i q (st d (now (acc .entry))) ⌝ }
 {
     let mut r = d;
-    let mut k: u32 = 0;
+    let mut k: u64 = 0;
     while k < n {
         r = pushed(r, i, q, acc);
         k += 1;

@@ -1,5 +1,5 @@
-// Words and states as the places hold them: 192 numbers of 32 bits. A number of 64 bits takes two places, the low half first.
-use crate::wire;
+// Words and states as the 192 places hold them, each number taken to the width of its field by its low bits. One of 64 bits takes two places, the
+// low half first.
 use sync::SlotSync;
 use sync_corr::Both;
 use sync_corr::Corr;
@@ -13,22 +13,17 @@ use sync_lock::Lock;
 use sync_lock::Tally;
 use sync_step::Run;
 ghost use mathlib.Core.Path.{_≡_};
-ghost use Prim.Native.Nat.{_+_, _*_, _≤_, _<_, _^_};
+ghost use Prim.Native.Nat.{_+_, _≤_, _<_};
 ghost use lib.ListN.{length};
-ghost use Rattle.sync_replay.specs.Given.{wideAt, wordOf, windowOf, corrAt, tallyOf, lockOf, stageOf, slotOf, recordOf, courseOf, runOf, stateOf};
+ghost use Rattle.fields.specs.Fields.{onesAt};
+ghost use Rattle.slot_wire.specs.Slots.{corrOf, slotOf};
+ghost use Rattle.sync_replay.specs.Given.{wideAt, windowOf, tallyOf, lockOf, stageOf, recordOf, courseOf, runOf, stateOf};
 
-// A function, since a parameter has a range, which an element of a lent array has not.
-fn joined(low: u32, high: u32) -> u64
-    ensures { λ r. ⌜ r ≡ low + 2 ^ 32 * high ⌝ }
-{
-    (low as u64) + 4294967296 * (high as u64)
-}
-
-pub(crate) fn wide(p: &[u32; 192], k: usize) -> u64
+pub(crate) fn wide(p: &[u64; 192], k: usize) -> u64
     requires { ⌜ k + 1 < 192 ⌝ }
     ensures { λ r. ⌜ r ≡ wideAt (now (p .entry)) k ⌝ }
 {
-    joined(p[k], p[k + 1])
+    (wire::low32(p[k]) as u64) + 4294967296 * (wire::low32(p[k + 1]) as u64)
 }
 
 fn no_word() -> [i8; 48]
@@ -38,9 +33,9 @@ fn no_word() -> [i8; 48]
 }
 
 // The word from place k on.
-pub(crate) fn word(p: &[u32; 192], k: usize) -> [i8; 48]
+pub(crate) fn word(p: &[u64; 192], k: usize) -> [i8; 48]
     requires { ⌜ k + 48 ≤ 192 ⌝ }
-    ensures { λ r. ⌜ r ≡ wordOf (now (p .entry)) k ⌝ }
+    ensures { λ r. ⌜ r ≡ onesAt (now (p .entry)) k ⌝ }
 {
     let mut w = no_word();
     let mut i: usize = 0;
@@ -57,7 +52,7 @@ fn no_window() -> [i16; 48]
     [0; 48]
 }
 
-fn window_at(p: &[u32; 192]) -> [i16; 48]
+fn window_at(p: &[u64; 192]) -> [i16; 48]
     ensures { λ r. ⌜ r ≡ windowOf (now (p .entry)) ⌝ }
 {
     let mut w = no_window();
@@ -69,9 +64,9 @@ fn window_at(p: &[u32; 192]) -> [i16; 48]
     w
 }
 
-fn corr_at(p: &[u32; 192], k: usize) -> Corr
+fn corr_at(p: &[u64; 192], k: usize) -> Corr
     requires { ⌜ k + 1 < 192 ⌝ }
-    ensures { λ r. ⌜ r ≡ corrAt (now (p .entry)) k ⌝ }
+    ensures { λ r. ⌜ r ≡ corrOf (now (p .entry)) k ⌝ }
 {
     Corr {
         re: wire::signed32(p[k]),
@@ -79,34 +74,35 @@ fn corr_at(p: &[u32; 192], k: usize) -> Corr
     }
 }
 
-fn tally_at(p: &[u32; 192]) -> Tally
+fn tally_at(p: &[u64; 192]) -> Tally
     ensures { λ r. ⌜ r ≡ tallyOf (now (p .entry)) ⌝ }
 {
     Tally {
-        peak: p[148],
-        place: (p[149] % 65536) as u16,
+        peak: wire::low32(p[148]),
+        place: fields::low16(p[149]),
         sum: wide(p, 150),
     }
 }
 
-fn lock_at(p: &[u32; 192]) -> Lock
+fn lock_at(p: &[u64; 192]) -> Lock
     ensures { λ r. ⌜ r ≡ lockOf (now (p .entry)) ⌝ }
 {
-    let place = (p[153] % 65536) as u16;
+    let place = fields::low16(p[153]);
+    let count = wire::low32(p[154]);
     if p[152] == 0 {
         Lock::Search {
             cand: place,
-            count: p[154],
+            count: count,
         }
     } else {
         Lock::Locked {
             offset: place,
-            misses: p[154],
+            misses: count,
         }
     }
 }
 
-fn stage_at(p: &[u32; 192]) -> Stage
+fn stage_at(p: &[u64; 192]) -> Stage
     ensures { λ r. ⌜ r ≡ stageOf (now (p .entry)) ⌝ }
 {
     if p[155] == 0 {
@@ -121,27 +117,27 @@ fn stage_at(p: &[u32; 192]) -> Stage
     } else {
         let l = corr_at(p, 164);
         Stage::Known(Parity {
-            odd: 0 < p[162],
-            due: 0 < p[163],
+            odd: p[162] != 0,
+            due: p[163] != 0,
             last: l,
         })
     }
 }
 
-fn slot_at(p: &[u32; 192]) -> Slot
-    ensures { λ r. ⌜ r ≡ slotOf (now (p .entry)) ⌝ }
+fn slot_at(p: &[u64; 192]) -> Slot
+    ensures { λ r. ⌜ r ≡ slotOf (now (p .entry)) 167 ⌝ }
 {
     if p[167] == 0 {
         Slot::Unknown
     } else {
         Slot::In {
-            number: (p[168] % 256) as u8,
-            frame: p[169],
+            number: wire::low8(p[168]),
+            frame: wire::low32(p[169]),
         }
     }
 }
 
-fn record_at(p: &[u32; 192]) -> Record
+fn record_at(p: &[u64; 192]) -> Record
     ensures { λ r. ⌜ r ≡ recordOf (now (p .entry)) ⌝ }
 {
     if p[170] == 0 {
@@ -149,12 +145,12 @@ fn record_at(p: &[u32; 192]) -> Record
     } else {
         Record::Last {
             at: wide(p, 171),
-            frame: p[173],
+            frame: wire::low32(p[173]),
         }
     }
 }
 
-fn course_at(p: &[u32; 192]) -> Course
+fn course_at(p: &[u64; 192]) -> Course
     ensures { λ r. ⌜ r ≡ courseOf (now (p .entry)) ⌝ }
 {
     let s = slot_at(p);
@@ -163,13 +159,13 @@ fn course_at(p: &[u32; 192]) -> Course
         majority: wire::signed32(p[166]),
         slot: s,
         last: l,
-        misses: p[174],
-        stray: p[175],
-        missed: p[176],
+        misses: wire::low32(p[174]),
+        stray: wire::low32(p[175]),
+        missed: wire::low32(p[176]),
     }
 }
 
-fn run_at(p: &[u32; 192]) -> Run
+fn run_at(p: &[u64; 192]) -> Run
     ensures { λ r. ⌜ r ≡ runOf (now (p .entry)) ⌝ }
 {
     let y = tally_at(p);
@@ -187,7 +183,7 @@ fn run_at(p: &[u32; 192]) -> Run
 }
 
 // The state of the places.
-pub(crate) fn state_at(p: &[u32; 192]) -> SlotSync
+pub(crate) fn state_at(p: &[u64; 192]) -> SlotSync
     ensures { λ r. ⌜ r ≡ stateOf (now (p .entry)) ⌝ }
 {
     let w = window_at(p);

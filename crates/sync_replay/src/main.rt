@@ -13,10 +13,9 @@
 // An answer: digest, refusal, F and S correlation (re, im), accumulator, three events of eleven numbers.
 // Input that ends within a call is told on standard error: a Rattle program has no exit status to tell it by.
 mod desk;
-mod digest;
 mod given;
+mod mixing;
 mod told;
-mod wire;
 
 use desk::Desk;
 ghost use mathlib.Core.Path.{_≡_};
@@ -36,10 +35,10 @@ struct Turn {
     used: usize,
 }
 
-// A call on the accumulators.
-fn on_store(d: Desk, kind: u32, n: u32, v: u32, p: &[u32; 192], acc: &mut [u32]) -> Desk {
+// A call on the accumulators, of which place 177 says how many are lent.
+fn on_store(d: Desk, kind: u64, n: u64, v: u64, p: &[u64; 192], acc: &mut [u32]) -> Desk {
     let at = given::wide(p, 144);
-    let all = desk::lent(p, acc.len());
+    let all = fields::least(p[177], acc.len());
     match kind {
         2 => desk::started(d, at, &mut acc[..all]),
         3 => desk::pushes(
@@ -52,7 +51,7 @@ fn on_store(d: Desk, kind: u32, n: u32, v: u32, p: &[u32; 192], acc: &mut [u32])
         4 => desk::restarted(d, at, &mut acc[..all]),
         7 => desk::folded(d, acc),
         8 => {
-            desk::set(acc, n, v);
+            desk::set(acc, n, wire::low32(v));
             d
         }
         _ => desk::unknown(d),
@@ -60,7 +59,7 @@ fn on_store(d: Desk, kind: u32, n: u32, v: u32, p: &[u32; 192], acc: &mut [u32])
 }
 
 // A call that tells nothing.
-fn call(d: Desk, kind: u32, n: u32, v: u32, p: &mut [u32; 192], acc: &mut [u32]) -> Desk {
+fn call(d: Desk, kind: u64, n: u64, v: u64, p: &mut [u64; 192], acc: &mut [u32]) -> Desk {
     match kind {
         0 => {
             desk::put(p, n, v);
@@ -90,26 +89,29 @@ fn tell(d: Desk, used: usize, out: &mut [u8]) -> usize
     ensures { λ r. ⌜ r ≤ 65536 ⌝ }
 {
     let t = d.told;
-    let bytes = wire::packed(&t);
+    let bytes = told::packed(&t);
     let at = room(used, out);
     bytes::copy(&bytes, &mut out[at..]);
     at + 320
 }
 
-// One call.
-fn one_call(t: Turn, a: u32, v: u32, p: &mut [u32; 192], acc: &mut [u32], out: &mut [u8]) -> Turn
+// One call: its kind in the lowest byte, n in the next three, v in the upper half.
+fn one_call(t: Turn, c: u64, p: &mut [u64; 192], acc: &mut [u32], out: &mut [u8]) -> Turn
     requires { ⌜ (length (now out) ≡ 65536) × (t .used ≤ 65536) ⌝ }
     ensures { λ r. ⌜ r .used ≤ 65536 ⌝ }
 {
     let d = t.desk;
-    if a % 256 == 6 {
+    let kind = c % 256;
+    let n = c / 256 % 16777216;
+    let v = c / 4294967296;
+    if kind == 6 {
         Turn {
             desk: d,
             used: tell(d, t.used, out),
         }
     } else {
         Turn {
-            desk: call(d, a % 256, a / 256, v, p, acc),
+            desk: call(d, kind, n, v, p, acc),
             used: t.used,
         }
     }
@@ -120,7 +122,7 @@ fn replay(
     d: Desk,
     buf: &[u8],
     n: usize,
-    p: &mut [u32; 192],
+    p: &mut [u64; 192],
     acc: &mut [u32],
     out: &mut [u8],
 ) -> Turn
@@ -130,14 +132,7 @@ fn replay(
     let mut t = Turn { desk: d, used: 0 };
     let mut i: usize = 0;
     while i < n {
-        t = one_call(
-            t,
-            wire::word(buf, 8 * i),
-            wire::word(buf, 8 * i + 4),
-            p,
-            acc,
-            out,
-        );
+        t = one_call(t, wire::ranged::word(buf, 8 * i), p, acc, out);
         i += 1;
     }
     t
@@ -162,7 +157,7 @@ fn next_of(got: usize, whole: usize, all: usize, written: bool) -> Next {
 }
 
 // Reads a block of calls and writes what they tell. A write that fails ends the replay.
-fn block(d: Desk, buf: &mut [u8], p: &mut [u32; 192], acc: &mut [u32], out: &mut [u8]) -> Left
+fn block(d: Desk, buf: &mut [u8], p: &mut [u64; 192], acc: &mut [u32], out: &mut [u8]) -> Left
     requires { ⌜ length (now out) ≡ 65536 ⌝ }
 {
     let got = io::read_full(0, buf);
@@ -178,7 +173,7 @@ fn block(d: Desk, buf: &mut [u8], p: &mut [u32; 192], acc: &mut [u32], out: &mut
 }
 
 // A proved loop has to end, and nothing says that the input does: the turns are counted down from a number that no run uses up.
-fn blocks(d: Desk, buf: &mut [u8], p: &mut [u32; 192], acc: &mut [u32], out: &mut [u8])
+fn blocks(d: Desk, buf: &mut [u8], p: &mut [u64; 192], acc: &mut [u32], out: &mut [u8])
     requires { ⌜ length (now out) ≡ 65536 ⌝ }
 {
     let mut k = d;
@@ -204,7 +199,7 @@ fn blocks(d: Desk, buf: &mut [u8], p: &mut [u32; 192], acc: &mut [u32], out: &mu
 
 // One accumulator more than a sync takes, so that too many can be lent.
 fn main() {
-    let mut p = [0u32; 192];
+    let mut p = [0u64; 192];
     let mut acc = [0u32; 9297];
     let mut buf = io::large_buffer();
     let mut out = io::large_buffer();

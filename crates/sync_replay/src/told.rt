@@ -1,85 +1,32 @@
 // An answer as forty numbers: a place for the digest, refusal, correlations, level, and three rows of eleven for the events.
-use crate::digest;
-use crate::wire;
+use crate::mixing;
 use sync_heads::Head;
-use sync_heads::Slot;
-use sync_heads::Word;
 use sync_step::Event;
 use sync_step::Events;
 use sync_step::LastCorr;
 use sync_step::SyncStats;
 ghost use mathlib.Core.Path.{_≡_};
-ghost use Rattle.sync_replay.specs.Told.{flagOf, partOf, wordNumber, slotKnown, slotNumber, slotFrame, headRow, periodRow, rowOf, answerOf, refusedOf, notedOf};
-
-fn flag(b: bool) -> u64
-    ensures { λ r. ⌜ r ≡ flagOf b ⌝ }
-{
-    if b { 1 } else { 0 }
-}
-
-fn part(v: i32) -> u64
-    ensures { λ r. ⌜ r ≡ partOf v ⌝ }
-{
-    wire::to_bits(v as i64)
-}
-
-fn word_number(w: Word) -> u64
-    ensures { λ r. ⌜ r ≡ wordNumber w ⌝ }
-{
-    match w {
-        Word::Ssync => 0,
-        Word::Fsync => 1,
-        Word::NotFsync => 2,
-    }
-}
-
-fn slot_known(s: Slot) -> u64
-    ensures { λ r. ⌜ r ≡ slotKnown s ⌝ }
-{
-    match s {
-        Slot::Unknown => 0,
-        Slot::In {
-            number: _,
-            frame: _,
-        } => 1,
-    }
-}
-
-fn slot_number(s: Slot) -> u64
-    ensures { λ r. ⌜ r ≡ slotNumber s ⌝ }
-{
-    match s {
-        Slot::Unknown => 0,
-        Slot::In { number, frame: _ } => number as u64,
-    }
-}
-
-fn slot_frame(s: Slot) -> u64
-    ensures { λ r. ⌜ r ≡ slotFrame s ⌝ }
-{
-    match s {
-        Slot::Unknown => 0,
-        Slot::In { number: _, frame } => frame as u64,
-    }
-}
+ghost use lib.ListN.{length};
+ghost use Rattle.sync_replay.specs.Told.{headRow, periodRow, rowOf, answerOf, refusedOf, notedOf, packedOf};
 
 fn head_row(h: Head) -> [u64; 11]
     ensures { λ r. ⌜ r ≡ headRow h ⌝ }
 {
     let w = h.word;
     let c = h.corr;
-    let s = h.slot;
+    let t = h.slot;
+    let s = slot_wire::slot_shown(t);
     [
         1,
         h.at,
-        word_number(w),
-        part(c.re),
-        part(c.im),
+        slot_wire::word_number(w),
+        wire::bits32(c.re),
+        wire::bits32(c.im),
         h.theta as u64,
         wire::to_bits(h.amp),
-        slot_known(s),
-        slot_number(s),
-        slot_frame(s),
+        s.known,
+        s.number,
+        s.frame,
         h.nco_phase as u64,
     ]
 }
@@ -92,7 +39,7 @@ fn period_row(p: SyncStats) -> [u64; 11]
         p.peak as u64,
         p.peak_pos as u64,
         p.sum,
-        flag(p.locked),
+        fields::flag(p.locked),
         p.offset as u64,
         p.ssync_parity as u64,
         p.stray_markers as u64,
@@ -128,10 +75,10 @@ pub(crate) fn answer(refusal: u8, last: LastCorr, es: Events) -> [u64; 40]
     [
         0,
         refusal as u64,
-        part(f.re),
-        part(f.im),
-        part(s.re),
-        part(s.im),
+        wire::bits32(f.re),
+        wire::bits32(f.im),
+        wire::bits32(s.re),
+        wire::bits32(s.im),
         last.level as u64,
         x[0],
         x[1],
@@ -183,6 +130,27 @@ pub(crate) fn noted(digest: u64, answer: [u64; 40]) -> [u64; 40]
     ensures { λ r. ⌜ r ≡ notedOf digest answer ⌝ }
 {
     let mut t = answer;
-    t[0] = digest::mixed_all(digest, &answer);
+    t[0] = mixing::mixed_all(digest, &answer);
+    t
+}
+
+// Zeros to fill. A function, since its contract gives a proof the length and no more.
+fn no_bytes() -> [u8; 320]
+    ensures { λ r. ⌜ length r ≡ 320 ⌝ }
+{
+    [0; 320]
+}
+
+// Forty numbers, eight bytes each.
+pub(crate) fn packed(n: &[u64; 40]) -> [u8; 320]
+    ensures { λ r. ⌜ r ≡ packedOf (now (n .entry)) ⌝ }
+{
+    let mut t = no_bytes();
+    let mut i: usize = 0;
+    while i < 320 {
+        let b = wire::bytes(n[i / 8]);
+        t[i] = b[i % 8];
+        i += 1;
+    }
     t
 }

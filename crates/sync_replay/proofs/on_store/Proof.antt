@@ -8,8 +8,11 @@ use Rattle.sync_replay.proofs.on_store.Tie as tie
 wide-requires : tie.Need-wide-requires
 wide-requires c κs = search needs
 
-lent-requires : tie.Need-lent-requires
-lent-requires c κs = search needs
+element-copy-out-least : tie.Need-element-copy-out-least
+element-copy-out-least c = search needs
+
+least-requires : tie.Need-least-requires
+least-requires c κs = search needs
 
 slice-relend-prefix-started : tie.Need-slice-relend-prefix-started
 slice-relend-prefix-started c = search needs
@@ -46,6 +49,9 @@ restarted-requires c κs = search needs
 
 folded-requires : tie.Need-folded-requires
 folded-requires c κs = search needs
+
+low32-requires : tie.Need-low32-requires
+low32-requires c κs = search needs
 
 set-requires : tie.Need-set-requires
 set-requires c κs = search needs
@@ -91,7 +97,8 @@ on-store-spec =
     tie.close
     (tie.spec
     wide-requires
-    lent-requires
+    element-copy-out-least
+    least-requires
     slice-relend-prefix-started
     slice-aggregate-started
     started-requires
@@ -104,6 +111,7 @@ on-store-spec =
     slice-aggregate-restarted
     restarted-requires
     folded-requires
+    low32-requires
     set-requires
     unknown-requires
     same-length

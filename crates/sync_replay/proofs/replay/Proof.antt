@@ -23,17 +23,10 @@ mul-word c = search needs
 word-requires : tie.Need-word-requires Inv-loop μ-loop
 word-requires c κs = search needs
 
-mul-word-2 : tie.Need-mul-word-2 Inv-loop μ-loop
-mul-word-2 c = search needs
-
-add-word : tie.Need-add-word Inv-loop μ-loop
-add-word c = search needs
-
-word-requires-2 : tie.Need-word-requires-2 Inv-loop μ-loop
-word-requires-2 c κs = search needs
-
 one-call-requires : tie.Need-one-call-requires Inv-loop μ-loop
-one-call-requires c κs = (c .before .before .before .before .before .before .loop .inv .3 ∙ c .before .before .before .before .before .before .before .before .before .before .pre .1, c .before .before .before .before .before .before .loop .inv .1)
+one-call-requires c κs =
+    let h = c .before .before .before .before .before in
+    (h .loop .inv .3 ∙ h .before .before .before .before .pre .1, h .loop .inv .1)
 
 add-i : tie.Need-add-i Inv-loop μ-loop
 add-i c = search needs
@@ -43,9 +36,10 @@ loop-less c = omega arith
 
 loop-again : tie.Need-loop-again Inv-loop μ-loop
 loop-again c =
-    let h = c .before .before .before .before .before .before .before .before .before .before .before in
     let g = c .before .before .before .before .one-call in
-    (rw (add-one (h .loop .i)) (c .before .before .before .before .before .before .before .before .before .before .loop-test .taken), g .ensures, g .kept .1 .1 .1 .1 .0 ∙ h .loop .inv .2, g .kept .1 .1 .1 .1 .1 .0 ∙ h .loop .inv .3)
+    let t = c .before .before .before .before .before .before .before .before .before in
+    let h = t .before in
+    (rw (add-one (h .loop .i)) (t .loop-test .taken), g .ensures, g .kept .1 .1 .1 .0 ∙ h .loop .inv .2, g .kept .1 .1 .1 .1 .0 ∙ h .loop .inv .3)
 
 same-length : tie.Need-same-length Inv-loop μ-loop
 same-length c = c .before .loop .inv .2
@@ -65,9 +59,6 @@ replay-spec =
     loop-holds
     mul-word
     word-requires
-    mul-word-2
-    add-word
-    word-requires-2
     one-call-requires
     add-i
     loop-less

@@ -1,9 +1,9 @@
 -- `sync_replay::desk::put` meets its contract. Assumes nothing.
 use Rattle.laws.specs.Choice.{if-no, if-yes}
 use Rattle.sync_replay.specs.Desk.{putOf}
-use borrow.Author.Needs.{needs}
 use borrow.Author.Tests.{le-ltb, lt-ltb}
 use mathlib.Core.Path.{sym}
+use borrow.Author.Needs.{needs}
 use Rattle.sync_replay.proofs.desk.put.Statement.{statement}
 use Rattle.sync_replay.proofs.desk.put.Tie as tie
 

@@ -1,5 +1,5 @@
 -- `sync_replay::given::corr_at` meets its contract. Assumes nothing.
-use Rattle.sync_replay.specs.Given.{corrAt}
+use Rattle.slot_wire.specs.Slots.{corrOf}
 use borrow.Author.Needs.{needs}
 use mir.Facts.{toZ-ofZ}
 use Rattle.sync_replay.proofs.given.corr_at.Statement.{statement}
@@ -27,7 +27,7 @@ signed32-requires-2 : tie.Need-signed32-requires-2
 signed32-requires-2 c κs = search needs
 
 returns : tie.Need-returns
-unfolding corrAt
+unfolding corrOf
 returns c =
     rw (toZ-ofZ (record { sfits = c .before .before .signed32 .ok }), toZ-ofZ (record { sfits = c .signed322 .ok }), c .before .before .signed32 .ensures, c .signed322 .ensures)
 

@@ -1,7 +1,7 @@
 -- `sync_replay::given::course_at` meets its contract. Assumes nothing.
 use Rattle.sync_replay.specs.Given.{courseOf}
-use borrow.Author.Needs.{needs}
 use mir.Facts.{toZ-ofZ}
+use borrow.Author.Needs.{needs}
 use Rattle.sync_replay.proofs.given.course_at.Statement.{statement}
 use Rattle.sync_replay.proofs.given.course_at.Tie as tie
 
@@ -17,20 +17,29 @@ element-copy-out-signed32 c = search needs
 signed32-requires : tie.Need-signed32-requires
 signed32-requires c κs = search needs
 
-element-copy-out-t10 : tie.Need-element-copy-out-t10
-element-copy-out-t10 c = search needs
+element-copy-out-low32 : tie.Need-element-copy-out-low32
+element-copy-out-low32 c = search needs
 
-element-copy-out-t13 : tie.Need-element-copy-out-t13
-element-copy-out-t13 c = search needs
+low32-requires : tie.Need-low32-requires
+low32-requires c κs = search needs
 
-element-copy-out-t16 : tie.Need-element-copy-out-t16
-element-copy-out-t16 c = search needs
+element-copy-out-low32-2 : tie.Need-element-copy-out-low32-2
+element-copy-out-low32-2 c = search needs
+
+low32-requires-2 : tie.Need-low32-requires-2
+low32-requires-2 c κs = search needs
+
+element-copy-out-low32-3 : tie.Need-element-copy-out-low32-3
+element-copy-out-low32-3 c = search needs
+
+low32-requires-3 : tie.Need-low32-requires-3
+low32-requires-3 c κs = search needs
 
 returns : tie.Need-returns
 unfolding courseOf
 returns c =
-    let h = c .before .before .before in
-    rw (toZ-ofZ (record { sfits = h .signed32 .ok }), h .signed32 .ensures, h .before .before .record-at .ensures, h .before .before .before .slot-at .ensures)
+    let h = c .before .before .before .before .before .before in
+    rw (toZ-ofZ (record { sfits = h .signed32 .ok }), h .signed32 .ensures, c .low323 .ensures, c .before .before .low322 .ensures, c .before .before .before .before .low32 .ensures, h .before .before .record-at .ensures, h .before .before .before .slot-at .ensures)
 
 pub course-at-spec : {M : Type 1} → statement M
 course-at-spec =
@@ -40,7 +49,10 @@ course-at-spec =
     record-at-requires
     element-copy-out-signed32
     signed32-requires
-    element-copy-out-t10
-    element-copy-out-t13
-    element-copy-out-t16
+    element-copy-out-low32
+    low32-requires
+    element-copy-out-low32-2
+    low32-requires-2
+    element-copy-out-low32-3
+    low32-requires-3
     returns)

@@ -1,9 +1,9 @@
 -- `sync_replay::given::stage_at` meets its contract. Assumes nothing.
 use Rattle.laws.specs.Choice.{if-no, if-yes}
 use Rattle.sync_replay.specs.Given.{stageOf}
-use borrow.Author.Needs.{needs}
 use borrow.Author.Tests.{eq-eqb, ne-eqb}
 use mathlib.Core.Path.{_∙_, sym}
+use borrow.Author.Needs.{needs}
 use Rattle.sync_replay.proofs.given.stage_at.Statement.{statement}
 use Rattle.sync_replay.proofs.given.stage_at.Tie as tie
 

@@ -2,7 +2,7 @@
 use Prim.Native.Nat.{_-_, _≤_}
 use Rattle.laws.proofs.Lists.{firsts-step}
 use Rattle.laws.specs.Ranges.{firsts}
-use Rattle.sync_replay.specs.Given.{wordEntry, wordOf}
+use Rattle.fields.specs.Fields.{oneAt, onesAt}
 use borrow.Author.Needs.{needs}
 use lib.ListN.{drop, drop-of-length-le}
 use mathlib.Core.List.{[], _++_, append-nil}
@@ -14,7 +14,7 @@ use Rattle.sync_replay.proofs.given.word.Statement.{statement}
 use Rattle.sync_replay.proofs.given.word.Tie as tie
 
 abbrev Inv-loop : tie.InvT-loop
-Inv-loop p k w₀ i₀ w i = (i ≤ 48) × (w ≡ firsts (wordEntry p k) i ++ drop i w₀)
+Inv-loop p k w₀ i₀ w i = (i ≤ 48) × (w ≡ firsts (oneAt p k) i ++ drop i w₀)
 
 abbrev μ-loop : tie.MeasureT-loop
 μ-loop p k w₀ i₀ w i = 48 - i
@@ -48,25 +48,25 @@ loop-less : tie.Need-loop-less Inv-loop μ-loop
 loop-less c = search needs
 
 loop-again : tie.Need-loop-again Inv-loop μ-loop
-unfolding wordEntry
+unfolding oneAt
 loop-again c =
     let h = c .before .before .before in
     let s = h .before .before .args in
     let ys = h .before .no-word .result in (
       omega arith,
       rw (toZ-ofZ (record { sfits = c .signed8 .ok }), h .loop .inv .1)
-          (firsts-step (wordEntry (s .p .now) (s .k)) ys (h .loop .i) (c .signed8 .result) (c .signed8 .ensures) (omega (arith, h .before .no-word .ensures))),
+          (firsts-step (oneAt (s .p .now) (s .k)) ys (h .loop .i) (c .signed8 .result) (c .signed8 .ensures) (omega (arith, h .before .no-word .ensures))),
     )
 
 returns : tie.Need-returns Inv-loop μ-loop
-unfolding wordOf
+unfolding onesAt
 returns c =
     let h = c .before in
     let s = h .before .before .args in
     let ys = h .before .no-word .result in
     let e : h .loop .i ≡ 48 = omega arith in
     let none : drop 48 ys ≡ [] = drop-of-length-le ys {i = 48} (omega (arith, h .before .no-word .ensures)) in
-    (rw (e, none) at (h .loop .inv .1)) ∙ append-nil (firsts (wordEntry (s .p .now) (s .k)) 48)
+    (rw (e, none) at (h .loop .inv .1)) ∙ append-nil (firsts (oneAt (s .p .now) (s .k)) 48)
 
 pub word-spec : {M : Type 1} → statement M
 word-spec =

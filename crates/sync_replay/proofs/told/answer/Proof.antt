@@ -16,17 +16,17 @@ row-requires-2 c κs = search needs
 row-requires-3 : tie.Need-row-requires-3
 row-requires-3 c κs = search needs
 
-part-requires : tie.Need-part-requires
-part-requires c κs = search needs
+bits32-requires : tie.Need-bits32-requires
+bits32-requires c κs = search needs
 
-part-requires-2 : tie.Need-part-requires-2
-part-requires-2 c κs = search needs
+bits32-requires-2 : tie.Need-bits32-requires-2
+bits32-requires-2 c κs = search needs
 
-part-requires-3 : tie.Need-part-requires-3
-part-requires-3 c κs = search needs
+bits32-requires-3 : tie.Need-bits32-requires-3
+bits32-requires-3 c κs = search needs
 
-part-requires-4 : tie.Need-part-requires-4
-part-requires-4 c κs = search needs
+bits32-requires-4 : tie.Need-bits32-requires-4
+bits32-requires-4 c κs = search needs
 
 cast-t19 : tie.Need-cast-t19
 cast-t19 c = search needs
@@ -137,7 +137,7 @@ returns : tie.Need-returns
 returns c =
     let s = c .before .before .before .before .before .before .before .before .before .before .before .before .before .before .before .args in
     let u = fits (c .before .before .before .before .before .before .before .before .before .before .before .before .before .before .before) in
-    answer-whole (s .refusal) (s .last) (s .es) (c .before .before .before .before .before .before .before .part .result) (c .before .before .before .before .before .part2 .result) (c .before .before .before .part3 .result) (c .before .part4 .result) (c .before .before .before .before .before .before .before .before .before .before .before .row .result) (c .before .before .before .before .before .before .before .before .before .before .row2 .result) (c .before .before .before .before .before .before .before .before .before .row3 .result) (rw (toZ-ofZ (u .0)) at (c .before .before .before .before .before .before .before .part .ensures)) (rw (toZ-ofZ (u .1)) at (c .before .before .before .before .before .part2 .ensures)) (rw (toZ-ofZ (u .2)) at (c .before .before .before .part3 .ensures)) (rw (toZ-ofZ (u .3)) at (c .before .part4 .ensures)) (c .before .before .before .before .before .before .before .before .before .before .before .row .ensures) (c .before .before .before .before .before .before .before .before .before .before .row2 .ensures) (c .before .before .before .before .before .before .before .before .before .row3 .ensures)
+    answer-whole (s .refusal) (s .last) (s .es) (c .before .before .before .before .before .before .before .bits32 .result) (c .before .before .before .before .before .bits322 .result) (c .before .before .before .bits323 .result) (c .before .bits324 .result) (c .before .before .before .before .before .before .before .before .before .before .before .row .result) (c .before .before .before .before .before .before .before .before .before .before .row2 .result) (c .before .before .before .before .before .before .before .before .before .row3 .result) (rw (toZ-ofZ (u .0)) at (c .before .before .before .before .before .before .before .bits32 .ensures)) (rw (toZ-ofZ (u .1)) at (c .before .before .before .before .before .bits322 .ensures)) (rw (toZ-ofZ (u .2)) at (c .before .before .before .bits323 .ensures)) (rw (toZ-ofZ (u .3)) at (c .before .bits324 .ensures)) (c .before .before .before .before .before .before .before .before .before .before .before .row .ensures) (c .before .before .before .before .before .before .before .before .before .before .row2 .ensures) (c .before .before .before .before .before .before .before .before .before .row3 .ensures)
 
 pub answer-spec : {M : Type 1} → statement M
 answer-spec =
@@ -146,10 +146,10 @@ answer-spec =
     row-requires
     row-requires-2
     row-requires-3
-    part-requires
-    part-requires-2
-    part-requires-3
-    part-requires-4
+    bits32-requires
+    bits32-requires-2
+    bits32-requires-3
+    bits32-requires-4
     cast-t19
     array-read-t22
     array-read-t25

@@ -1,13 +1,13 @@
--- `sync_replay::digest::mixed_store` meets its contract. Assumes nothing.
+-- `sync_replay::mixing::mixed_store` meets its contract. Assumes nothing.
 use Prim.Native.Nat.{_-_, _≤_}
 use Rattle.sync_replay.proofs.Laws.{mixed-more, mixed-none}
-use Rattle.sync_replay.specs.Digest.{mixedTo}
+use Rattle.sync_replay.specs.Mixing.{mixedTo}
 use borrow.Author.Needs.{needs}
 use lib.ListN.{length}
 use mathlib.Core.Path.{_∙_, _≡_}
 use native.Mathlib.Omega.{arith}
-use Rattle.sync_replay.proofs.digest.mixed_store.Statement.{statement}
-use Rattle.sync_replay.proofs.digest.mixed_store.Tie as tie
+use Rattle.sync_replay.proofs.mixing.mixed_store.Statement.{statement}
+use Rattle.sync_replay.proofs.mixing.mixed_store.Tie as tie
 
 abbrev Inv-loop : tie.InvT-loop
 Inv-loop d acc r₀ k₀ r k = (k ≤ length acc) × (r ≡ mixedTo d acc k)

@@ -1,8 +1,8 @@
--- `sync_replay::digest::mixed` meets its contract. Assumes nothing.
-use Rattle.sync_replay.proofs.Laws.{halves}
+-- `sync_replay::mixing::mixed` meets its contract. Assumes nothing.
+use Rattle.digest.proofs.Laws.{halves}
 use borrow.Author.Needs.{needs}
-use Rattle.sync_replay.proofs.digest.mixed.Statement.{statement}
-use Rattle.sync_replay.proofs.digest.mixed.Tie as tie
+use Rattle.sync_replay.proofs.mixing.mixed.Statement.{statement}
+use Rattle.sync_replay.proofs.mixing.mixed.Tie as tie
 
 mul-low : tie.Need-mul-low
 mul-low c = search needs

@@ -1,12 +1,12 @@
--- `sync_replay::digest::mixed_all` meets its contract. Assumes nothing.
+-- `sync_replay::mixing::mixed_all` meets its contract. Assumes nothing.
 use Prim.Native.Nat.{_-_, _≤_}
 use Rattle.sync_replay.proofs.Laws.{mixed-more, mixed-none}
-use Rattle.sync_replay.specs.Digest.{mixedTo}
+use Rattle.sync_replay.specs.Mixing.{mixedTo}
 use borrow.Author.Needs.{needs}
 use mathlib.Core.Path.{_∙_, _≡_}
 use native.Mathlib.Omega.{arith}
-use Rattle.sync_replay.proofs.digest.mixed_all.Statement.{statement}
-use Rattle.sync_replay.proofs.digest.mixed_all.Tie as tie
+use Rattle.sync_replay.proofs.mixing.mixed_all.Statement.{statement}
+use Rattle.sync_replay.proofs.mixing.mixed_all.Tie as tie
 
 abbrev Inv-loop : tie.InvT-loop
 Inv-loop d n r₀ k₀ r k = (k ≤ 40) × (r ≡ mixedTo d n k)

@@ -2,7 +2,8 @@
 // never goes away.
 ghost use mathlib.Core.Path.{_≡_};
 ghost use lib.ListN.{length};
-ghost use Rattle.sync_replay.specs.Digest.{mixedOf, mixedTo};
+ghost use Rattle.digest.specs.Digest.{mixedOf};
+ghost use Rattle.sync_replay.specs.Mixing.{mixedTo};
 
 // The product is made of two halves, since a product may not pass 64 bits.
 fn mixed(d: u64, n: u64) -> u64
