@@ -6,19 +6,21 @@ use Rattle.laws.specs.Ranges.{firsts}
 use Rattle.sync.specs.Answers.{pushAcc}
 use Rattle.sync_replay.specs.Desk.{St, pushedOf, pushesOf, st}
 use Rattle.sync_replay.specs.Mixing.{mixedTo}
-use Rattle.sync_replay.specs.Told.{answerOf, headRow, periodRow, rowOf}
-use Rattle.sync_step.specs.declared.Event.the-variants.{Lost, Nothing, Period}
+use Rattle.sync_replay.specs.declared.desk.Desk.{Desk}
+use Rattle.sync_replay.specs.Told.{answerOf, headRow, periodRow, refusedOf, rowOf}
+use Rattle.sync_step.specs.declared.Event.the-variants.{Head as HeadEvent, Lost, Nothing, Period}
 use Rattle.sync_step.specs.declared.Event.{Event}
 use Rattle.sync_step.specs.declared.Events.{Events}
 use Rattle.sync_step.specs.declared.LastCorr.{LastCorr}
 use Rattle.wire.specs.Wire.{bits, byteOf, bytesOf}
 use lib.IntN.{ℤ}
-use lib.ListN.{getD}
+use lib.ListN.{drop, drop-of-length-le, getD, length, set}
+use lib.Seq.{drop-cons, sets}
 use mathlib.Core.List.{List, [], _++_, _∷_}
-use mathlib.Core.Path.{_∙_, _≡_, ap, refl}
+use mathlib.Core.Path.{_≡_, ap, refl}
+use native.Mathlib.Nat.{add-suc}
 use native.Mathlib.Numerals.{add-one}
-use Rattle.sync_step.specs.declared.Event.the-variants.{Head as HeadEvent}
-use Rattle.sync_replay.specs.declared.desk.Desk.{Desk}
+use native.Mathlib.Omega.{arith}
 
 -- ---- a byte of the eight
 pub byte-is : (u j : ℕ) → j < 8 → getD (bytesOf u) j 0 ≡ byteOf u j
@@ -35,7 +37,7 @@ unfolding mixedTo
 mixed-none d l = refl
 
 -- ---- a row has eleven numbers
-abbrev pub rowRead : List ℕ → List ℕ
+abbrev rowRead : List ℕ → List ℕ
 rowRead l =
     getD l 0 0
     ∷ getD l 1 0
@@ -50,32 +52,38 @@ rowRead l =
     ∷ getD l 10 0
     ∷ []
 
-row-whole : (e : Event) → rowRead (rowOf e) ≡ rowOf e
+row-whole : (e : Event) → rowOf e ≡ rowRead (rowOf e)
 unfolding rowOf headRow periodRow
 row-whole Nothing = refl
 row-whole (HeadEvent h) = refl
 row-whole (Period p) = refl
 row-whole (Lost p) = refl
 
-rows-whole : (h : List ℕ) (x y z : Event) (l m n : List ℕ) → l ≡ rowOf x → m ≡ rowOf y → n ≡ rowOf z →
-    h ++ rowRead l ++ rowRead m ++ rowRead n ≡ h ++ rowOf x ++ rowOf y ++ rowOf z
-rows-whole h x y z l m n p q r =
-    ap (λ (u : List ℕ). h ++ rowRead u ++ rowRead m ++ rowRead n) p
-    ∙ ap (λ (u : List ℕ). h ++ u ++ rowRead m ++ rowRead n) (row-whole x)
-    ∙ ap (λ (u : List ℕ). h ++ rowOf x ++ rowRead u ++ rowRead n) q
-    ∙ ap (λ (u : List ℕ). h ++ rowOf x ++ u ++ rowRead n) (row-whole y)
-    ∙ ap (λ (u : List ℕ). h ++ rowOf x ++ rowOf y ++ rowRead u) r
-    ∙ ap (λ (u : List ℕ). h ++ rowOf x ++ rowOf y ++ u) (row-whole z)
+pub row-long : (e : Event) → length (rowOf e) ≡ 11
+row-long e = ap length (row-whole e)
 
-pub answer-whole : (refusal : ℕ) (last : LastCorr) (es : Events) (a b c d : ℕ) (l m n : List ℕ) →
-    a ≡ bits (last .both .f .re) → b ≡ bits (last .both .f .im) → c ≡ bits (last .both .s .re) → d ≡ bits (last .both .s .im) →
-    l ≡ rowOf (es .first) → m ≡ rowOf (es .second) → n ≡ rowOf (es .third) →
-    (0 ∷ refusal ∷ a ∷ b ∷ c ∷ d ∷ last .level ∷ []) ++ rowRead l ++ rowRead m ++ rowRead n ≡ answerOf refusal last es
+-- ---- a row placed number by number
+pub placed-more : (r t x : List ℕ) (k i : ℕ) → i < length x → sets r (k + i) (drop i x) ≡ sets t k x →
+    sets (set r (k + i) (getD x i 0)) (k + (i + 1)) (drop (i + 1) x) ≡ sets t k x
+placed-more r t x k i h e = rw (add-one i, add-suc k i) (rw (drop-cons x i 0 h) at e)
+
+pub placed-all : (r t x : List ℕ) (k i : ℕ) → length x ≡ i → sets r (k + i) (drop i x) ≡ sets t k x → r ≡ sets t k x
+placed-all r t x k i h e = rw (drop-of-length-le x {i = i} (omega (arith, h))) at e
+
+-- ---- three rows placed
+rows-whole : (refusal a b c d v : ℕ) (l m n : List ℕ) → l ≡ rowRead l → m ≡ rowRead m → n ≡ rowRead n →
+    sets (sets (sets (set (set (set (set (set (refusedOf refusal) 2 a) 3 b) 4 c) 5 d) 6 v) 7 l) 18 m) 29 n
+    ≡ (0 ∷ refusal ∷ a ∷ b ∷ c ∷ d ∷ v ∷ []) ++ l ++ m ++ n
+unfolding refusedOf
+rows-whole refusal a b c d v l m n p q r = rw (p, q, r)
+
+pub answer-whole : (refusal : ℕ) (last : LastCorr) (es : Events) →
+    let f = last .both .f in
+    let s = last .both .s in
+    let t = set (set (set (set (set (refusedOf refusal) 2 (bits (f .re))) 3 (bits (f .im))) 4 (bits (s .re))) 5 (bits (s .im))) 6 (last .level) in
+    sets (sets (sets t 7 (rowOf (es .first))) 18 (rowOf (es .second))) 29 (rowOf (es .third)) ≡ answerOf refusal last es
 unfolding answerOf
-answer-whole refusal last es a b c d l m n e f g h p q r =
-    let b0 = last .both in
-    let o : List ℕ = 0 ∷ refusal ∷ bits (b0 .f .re) ∷ bits (b0 .f .im) ∷ bits (b0 .s .re) ∷ bits (b0 .s .im) ∷ last .level ∷ [] in
-    rw (e, f, g, h) (rows-whole o (es .first) (es .second) (es .third) l m n p q r)
+answer-whole refusal last es = rows-whole refusal _ _ _ _ _ _ _ _ (row-whole (es .first)) (row-whole (es .second)) (row-whole (es .third))
 
 -- ---- one more push of the same symbol
 pub pushes-more : (n : ℕ) (i q : ℤ) (s r : St) → r ≡ pushesOf n i q s →

@@ -6,7 +6,9 @@ use sync_step::Events;
 use sync_step::LastCorr;
 use sync_step::SyncStats;
 ghost use mathlib.Core.Path.{_≡_};
+ghost use Prim.Native.Nat.{_+_, _≤_};
 ghost use lib.ListN.{length};
+ghost use lib.Seq.{sets};
 ghost use Rattle.sync_replay.specs.Told.{headRow, periodRow, rowOf, answerOf, refusedOf, notedOf, packedOf};
 
 fn head_row(h: Head) -> [u64; 11]
@@ -60,62 +62,6 @@ fn row(e: Event) -> [u64; 11]
     }
 }
 
-pub(crate) fn answer(refusal: u8, last: LastCorr, es: Events) -> [u64; 40]
-    ensures { λ r. ⌜ r ≡ answerOf refusal last es ⌝ }
-{
-    let b = last.both;
-    let f = b.f;
-    let s = b.s;
-    let e1 = es.first;
-    let e2 = es.second;
-    let e3 = es.third;
-    let x = row(e1);
-    let y = row(e2);
-    let z = row(e3);
-    [
-        0,
-        refusal as u64,
-        wire::bits32(f.re),
-        wire::bits32(f.im),
-        wire::bits32(s.re),
-        wire::bits32(s.im),
-        last.level as u64,
-        x[0],
-        x[1],
-        x[2],
-        x[3],
-        x[4],
-        x[5],
-        x[6],
-        x[7],
-        x[8],
-        x[9],
-        x[10],
-        y[0],
-        y[1],
-        y[2],
-        y[3],
-        y[4],
-        y[5],
-        y[6],
-        y[7],
-        y[8],
-        y[9],
-        y[10],
-        z[0],
-        z[1],
-        z[2],
-        z[3],
-        z[4],
-        z[5],
-        z[6],
-        z[7],
-        z[8],
-        z[9],
-        z[10],
-    ]
-}
-
 // An answer that is a refusal's number, or 0, alone.
 pub(crate) fn refused(n: u8) -> [u64; 40]
     ensures { λ r. ⌜ r ≡ refusedOf n ⌝ }
@@ -123,6 +69,42 @@ pub(crate) fn refused(n: u8) -> [u64; 40]
     let mut t = [0u64; 40];
     t[1] = n as u64;
     t
+}
+
+// With an event's row from place k on.
+fn placed(t: [u64; 40], k: usize, e: Event) -> [u64; 40]
+    requires { ⌜ k + 11 ≤ 40 ⌝ }
+    ensures { λ r. ⌜ r ≡ sets t k (rowOf e) ⌝ }
+{
+    let x = row(e);
+    let mut r = t;
+    let mut i: usize = 0;
+    while i < 11 {
+        r[k + i] = x[i];
+        i += 1;
+    }
+    r
+}
+
+// The answer to a symbol.
+pub(crate) fn answer(refusal: u8, last: LastCorr, es: Events) -> [u64; 40]
+    ensures { λ r. ⌜ r ≡ answerOf refusal last es ⌝ }
+{
+    let b = last.both;
+    let f = b.f;
+    let s = b.s;
+    let mut t = refused(refusal);
+    t[2] = wire::bits32(f.re);
+    t[3] = wire::bits32(f.im);
+    t[4] = wire::bits32(s.re);
+    t[5] = wire::bits32(s.im);
+    t[6] = last.level as u64;
+    let e1 = es.first;
+    let e2 = es.second;
+    let e3 = es.third;
+    let x = placed(t, 7, e1);
+    let y = placed(x, 18, e2);
+    placed(y, 29, e3)
 }
 
 // An answer with the digest that it leaves.
