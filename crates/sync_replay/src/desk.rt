@@ -4,7 +4,6 @@ use crate::mixing;
 use crate::told;
 use sync::SlotSync;
 ghost use mathlib.Core.Path.{_≡_};
-ghost use lib.ListN.{length};
 ghost use Rattle.sync.specs.Answers.{newAcc, restartAcc, pushAcc};
 ghost use Rattle.sync_replay.specs.Desk.{putOf, setOf, wordsOf, afterOf, startedOf, restartedOf, handedOf, foldedOf, unknownOf, pushedOf, st, pushesOf};
 

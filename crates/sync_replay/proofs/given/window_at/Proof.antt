@@ -6,7 +6,6 @@ use Rattle.sync_replay.specs.Given.{windowEntry, windowOf}
 use borrow.Author.Needs.{needs}
 use lib.ListN.{drop, drop-of-length-le}
 use mathlib.Core.List.{[], _++_, append-nil}
-use mathlib.Core.Option.{none}
 use mathlib.Core.Path.{_∙_, _≡_, refl}
 use mir.Facts.{toZ-ofZ}
 use native.Mathlib.Omega.{arith}
