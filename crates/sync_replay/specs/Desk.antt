@@ -19,6 +19,7 @@ putOf p n v = if ltb n 192 then set p n v else p
 unfoldable pub setOf : List ℕ → ℕ → ℕ → List ℕ
 setOf acc n v = if ltb n (length acc) then set acc n v else acc
 
+-- the F word from place 0 on, the S word from 48 on
 unfoldable pub wordsOf : Desk → List ℕ → Desk
 wordsOf d p = record { sync = d .sync; f = onesAt p 0; s = onesAt p 48; told = d .told }
 

@@ -1,4 +1,4 @@
--- The digest of all answers so far, by the digest's step: multiplied by 2,654,435,761 and a number added, modulo 2^64.
+-- The digest of all answers: it goes on from one answer to the next, by the step of the digests of lists.
 use Prim.Native.Nat.{ℕ, zero, suc}
 use mathlib.Core.List.{List}
 use lib.ListN.{getD}

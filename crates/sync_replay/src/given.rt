@@ -23,7 +23,7 @@ pub(crate) fn wide(p: &[u64; 192], k: usize) -> u64
     requires { ⌜ k + 1 < 192 ⌝ }
     ensures { λ r. ⌜ r ≡ wideAt (now (p .entry)) k ⌝ }
 {
-    (wire::low32(p[k]) as u64) + 4294967296 * (wire::low32(p[k + 1]) as u64)
+    (wire::low32(p[k]) as u64) + 0x1_0000_0000 * (wire::low32(p[k + 1]) as u64)
 }
 
 fn no_word() -> [i8; 48]
@@ -64,6 +64,7 @@ fn window_at(p: &[u64; 192]) -> [i16; 48]
     w
 }
 
+// Correlation and slot as slot_wire reads them; its functions take 24 numbers.
 fn corr_at(p: &[u64; 192], k: usize) -> Corr
     requires { ⌜ k + 1 < 192 ⌝ }
     ensures { λ r. ⌜ r ≡ corrOf (now (p .entry)) k ⌝ }

@@ -101,9 +101,9 @@ fn one_call(t: Turn, c: u64, p: &mut [u64; 192], acc: &mut [u32], out: &mut [u8]
     ensures { λ r. ⌜ r .used ≤ 65536 ⌝ }
 {
     let d = t.desk;
-    let kind = c % 256;
-    let n = c / 256 % 16777216;
-    let v = c / 4294967296;
+    let kind = c % 0x100;
+    let n = c / 0x100 % 0x100_0000;
+    let v = c / 0x1_0000_0000;
     if kind == 6 {
         Turn {
             desk: d,

@@ -1,16 +1,15 @@
-// A digest of all answers: with each number it is multiplied and the number added, modulo 2^64. The factor is odd, so that a single difference
-// never goes away.
+// A digest of all answers: it goes on from one answer to the next.
 ghost use mathlib.Core.Path.{_≡_};
 ghost use lib.ListN.{length};
 ghost use Rattle.digest.specs.Digest.{mixedOf};
 ghost use Rattle.sync_replay.specs.Mixing.{mixedTo};
 
-// The product is made of two halves, since a product may not pass 64 bits.
+// One more number. The crate digest keeps its own to itself. The product is made of two halves, since a product may not pass 64 bits.
 fn mixed(d: u64, n: u64) -> u64
     ensures { λ r. ⌜ r ≡ mixedOf d n ⌝ }
 {
-    let low = (d % 4294967296) * 2654435761;
-    let high = ((d / 4294967296) * 2654435761 % 4294967296) * 4294967296;
+    let low = (d % 0x1_0000_0000) * 2654435761;
+    let high = ((d / 0x1_0000_0000) * 2654435761 % 0x1_0000_0000) * 0x1_0000_0000;
     std::num::wrapping_add_u64(std::num::wrapping_add_u64(low, high), n)
 }
 
