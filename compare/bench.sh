@@ -105,3 +105,7 @@ for entry in feed symbol; do
         line "$entry $bits" $((rust - none)) $((ours - none)) $((8 * 9296))
     done
 done
+# .. and of a call of `feed` beside its symbols
+bare=$(instructions bench_receiver feed 1 port 8)
+more=$(instructions bench_receiver empty 1 port 8)
+printf '%-14s %9s %9.1f\n' 'empty feed' - "$(awk -v d=$((more - bare)) 'BEGIN { print d / 1000 }')"

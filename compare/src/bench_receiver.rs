@@ -23,6 +23,8 @@ const OFFSET: usize = 4_000;
 const K: i64 = 4_096;
 const WIDTHS: [usize; 3] = [1, 3, 5];
 const ENTRIES: [&str; 2] = ["feed", "symbol"];
+/// Calls of `feed` behind the stream's end, by the entry "empty": what a call takes beside its symbols.
+const EMPTY: u32 = 1_000;
 const SIDES: [&str; 3] = ["none", "rust", "port"];
 
 #[repr(C)]
@@ -234,6 +236,7 @@ fn port(input: &Input, entry: &str) -> Vec<i8> {
     let got = unsafe {
         match entry {
             "feed" => received!(sv_bench_receive, calls(b.len() / 2 / SLOT)),
+            "empty" => received!(sv_bench_receive, calls(b.len() / 2 / SLOT) + EMPTY),
             _ => received!(sv_bench_symbols),
         }
     };
@@ -287,7 +290,7 @@ fn main() {
     let args: Vec<&str> = args.iter().map(String::as_str).collect();
     match args[..] {
         ["time"] => time(),
-        ["count", entry, bits, who, periods] if ENTRIES.contains(&entry) && SIDES.contains(&who) => {
+        ["count", entry, bits, who, periods] if (ENTRIES.contains(&entry) || entry == "empty") && SIDES.contains(&who) => {
             let input = Input::new(bits.parse().expect("bits"), periods.parse().expect("periods"));
             println!("{}", side(&input, entry, who));
         }
