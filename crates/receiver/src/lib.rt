@@ -3,6 +3,7 @@ mod loads;
 pub mod ranged;
 mod refusals;
 mod starts;
+pub mod told;
 
 use carrier::Nco;
 use eq::TapsFrom;

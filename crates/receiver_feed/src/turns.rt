@@ -5,52 +5,15 @@ use crate::ready;
 use crate::stretch;
 use receiver::Answer;
 use receiver::Receiver;
-use receiver_slot::AlignedRun;
-use receiver_slot::Runs;
-use sync_step::Event;
-use sync_step::Events;
 ghost use mathlib.Core.Path.{_≡_};
-ghost use mathlib.Core.Bool.{Bool, true, not};
+ghost use mathlib.Core.Bool.{true};
 ghost use Prim.Native.Nat.{_+_, _-_, _*_, _/_, _≤_, _<_, _^_};
 ghost use lib.ListN.{length};
 ghost use Rattle.laws.specs.Choice.{if_then_else_};
 ghost use Rattle.sync_corr.specs.Rows.{rowsOf};
-ghost use Rattle.sync_step.specs.Events.{isNothing, noEvents};
 ghost use Rattle.receiver_bounds.specs.Bounds.{tallyWithin};
-ghost use Rattle.receiver.specs.Answers.{noRuns};
-ghost use Rattle.receiver.specs.Feed.{anyEvent, tellsAny};
 ghost use Rattle.receiver.specs.Ranges.{receiverInRange};
 ghost use Rattle.receiver_feed.specs.Turns.{Leads, Stands, answerOf, refusedFeed, restBy, standFrom, stoppedAt, toldBy};
-
-fn is_event(e: Event) -> bool
-    ensures { λ r. ⌜ r ≡ not (isNothing e) ⌝ }
-{
-    match e {
-        Event::Nothing => false,
-        Event::Head(_) => true,
-        Event::Period(_) => true,
-        Event::Lost(_) => true,
-    }
-}
-
-fn any_event(es: Events) -> bool
-    ensures { λ r. ⌜ r ≡ anyEvent es ⌝ }
-{
-    let a = es.first;
-    let b = es.second;
-    let c = es.third;
-    is_event(a) | is_event(b) | is_event(c)
-}
-
-// Whether an answer tells an event or aligned symbols.
-fn tells(a: Answer) -> bool
-    ensures { λ r. ⌜ r ≡ tellsAny a ⌝ }
-{
-    let es = a.events;
-    let t = a.runs.tail;
-    let b = a.runs.body;
-    any_event(es) | (t.count != 0) | (b.count != 0)
-}
 
 // Symbol i was given to its call.
 fn told(a: Answer, i: usize) -> Turn
@@ -68,7 +31,7 @@ fn told(a: Answer, i: usize) -> Turn
             receiver: r,
             events: es,
             runs: runs,
-            done: tells(a),
+            done: receiver::told::tells(a),
         }
     } else {
         Turn {
@@ -82,31 +45,6 @@ fn told(a: Answer, i: usize) -> Turn
     }
 }
 
-fn no_events() -> Events
-    ensures { λ r. ⌜ r ≡ noEvents ⌝ }
-{
-    Events {
-        first: Event::Nothing,
-        second: Event::Nothing,
-        third: Event::Nothing,
-    }
-}
-
-fn no_runs() -> Runs
-    ensures { λ r. ⌜ r ≡ noRuns ⌝ }
-{
-    let none = AlignedRun {
-        at: 0,
-        j: 0,
-        count: 0,
-        bits: 0,
-    };
-    Runs {
-        tail: none,
-        body: none,
-    }
-}
-
 // Symbol i would be refused.
 fn stopped(n: u8, r: Receiver, i: usize) -> Turn
     ensures { λ t. ⌜ t ≡ stoppedAt n r i ⌝ }
@@ -115,8 +53,8 @@ fn stopped(n: u8, r: Receiver, i: usize) -> Turn
         refusal: n,
         used: i,
         receiver: r,
-        events: no_events(),
-        runs: no_runs(),
+        events: receiver::told::no_events(),
+        runs: receiver::told::no_runs(),
         done: true,
     }
 }
@@ -189,8 +127,8 @@ fn turn(
             refusal: 0,
             used: i + p.taken,
             receiver: x,
-            events: no_events(),
-            runs: no_runs(),
+            events: receiver::told::no_events(),
+            runs: receiver::told::no_runs(),
             done: false,
         }
     }
@@ -249,8 +187,8 @@ pub(crate) fn all(
         refusal: 0,
         used: 0,
         receiver: r,
-        events: no_events(),
-        runs: no_runs(),
+        events: receiver::told::no_events(),
+        runs: receiver::told::no_runs(),
         done: false,
     };
     let mut i: usize = 0;
@@ -288,8 +226,8 @@ pub(crate) fn answer(t: Turn) -> Fed
             refusal: 0,
             used: u,
             receiver: r,
-            events: no_events(),
-            runs: no_runs(),
+            events: receiver::told::no_events(),
+            runs: receiver::told::no_runs(),
         }
     }
 }
@@ -302,7 +240,7 @@ pub(crate) fn refused(n: u8, r: Receiver) -> Fed
         refusal: n,
         used: 0,
         receiver: r,
-        events: no_events(),
-        runs: no_runs(),
+        events: receiver::told::no_events(),
+        runs: receiver::told::no_runs(),
     }
 }

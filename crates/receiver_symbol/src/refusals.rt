@@ -1,12 +1,7 @@
 // 0, or why a symbol is refused, as far as that is known without its slot: in the order of document 01's table.
 use receiver::Answer;
 use receiver::Receiver;
-use receiver_slot::AlignedRun;
-use receiver_slot::Runs;
-use sync_step::Event;
-use sync_step::Events;
 ghost use mathlib.Core.Path.{_≡_};
-ghost use Rattle.receiver.specs.Answers.{noRuns};
 ghost use Rattle.receiver_symbol.specs.Parts.{stateRefusal, soonRefusal, refusedBy};
 
 // A symbol by the state alone.
@@ -52,26 +47,7 @@ pub(crate) fn refused(n: u8, r: Receiver) -> Answer
     Answer {
         refusal: n,
         receiver: r,
-        events: Events {
-            first: Event::Nothing,
-            second: Event::Nothing,
-            third: Event::Nothing,
-        },
-        runs: no_runs(),
-    }
-}
-
-pub(crate) fn no_runs() -> Runs
-    ensures { λ r. ⌜ r ≡ noRuns ⌝ }
-{
-    let none = AlignedRun {
-        at: 0,
-        j: 0,
-        count: 0,
-        bits: 0,
-    };
-    Runs {
-        tail: none,
-        body: none,
+        events: receiver::told::no_events(),
+        runs: receiver::told::no_runs(),
     }
 }

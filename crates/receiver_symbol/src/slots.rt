@@ -81,7 +81,7 @@ pub(crate) fn go_on(
     match d {
         Due::Nothing => {
             let b = r.back;
-            after::taken(r, a, b, refusals::no_runs(), p, acc, store)
+            after::taken(r, a, b, receiver::told::no_runs(), p, acc, store)
         }
         Due::Slot(w) => with_slot(r, a, w, p, f, s, table, acc, store, soft),
     }

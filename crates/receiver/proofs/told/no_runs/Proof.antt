@@ -1,10 +1,10 @@
--- `receiver_feed::turns::no_runs` meets its contract. Assumes nothing.
+-- `receiver::told::no_runs` meets its contract. Assumes nothing.
 use Rattle.receiver.specs.Answers.{noRuns}
 use Rattle.receiver_slot.specs.Slot.{noRun}
 use mathlib.Core.Path.{refl}
 use borrow.Author.Needs.{needs}
-use Rattle.receiver_feed.proofs.turns.no_runs.Statement.{statement}
-use Rattle.receiver_feed.proofs.turns.no_runs.Tie as tie
+use Rattle.receiver.proofs.told.no_runs.Statement.{statement}
+use Rattle.receiver.proofs.told.no_runs.Tie as tie
 
 returns : tie.Need-returns
 unfolding noRuns noRun

@@ -1,9 +1,9 @@
--- `receiver_feed::turns::no_events` meets its contract. Assumes nothing.
+-- `receiver::told::no_events` meets its contract. Assumes nothing.
 use Rattle.sync_step.specs.Events.{noEvents}
 use mathlib.Core.Path.{refl}
 use borrow.Author.Needs.{needs}
-use Rattle.receiver_feed.proofs.turns.no_events.Statement.{statement}
-use Rattle.receiver_feed.proofs.turns.no_events.Tie as tie
+use Rattle.receiver.proofs.told.no_events.Statement.{statement}
+use Rattle.receiver.proofs.told.no_events.Tie as tie
 
 returns : tie.Need-returns
 unfolding noEvents

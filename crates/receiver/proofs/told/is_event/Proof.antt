@@ -1,8 +1,8 @@
--- `receiver_feed::turns::is_event` meets its contract. Assumes nothing.
+-- `receiver::told::is_event` meets its contract. Assumes nothing.
 use Rattle.sync_step.specs.Events.{isNothing}
 use borrow.Author.Needs.{needs}
-use Rattle.receiver_feed.proofs.turns.is_event.Statement.{statement}
-use Rattle.receiver_feed.proofs.turns.is_event.Tie as tie
+use Rattle.receiver.proofs.told.is_event.Statement.{statement}
+use Rattle.receiver.proofs.told.is_event.Tie as tie
 
 enum-told : tie.Need-enum-told
 enum-told c = search needs

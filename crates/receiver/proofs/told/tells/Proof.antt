@@ -1,8 +1,8 @@
--- `receiver_feed::turns::tells` meets its contract. Assumes nothing.
+-- `receiver::told::tells` meets its contract. Assumes nothing.
 use Rattle.receiver.specs.Feed.{tellsAny}
 use borrow.Author.Needs.{needs}
-use Rattle.receiver_feed.proofs.turns.tells.Statement.{statement}
-use Rattle.receiver_feed.proofs.turns.tells.Tie as tie
+use Rattle.receiver.proofs.told.tells.Statement.{statement}
+use Rattle.receiver.proofs.told.tells.Tie as tie
 
 any-event-requires : tie.Need-any-event-requires
 any-event-requires c κs = search needs

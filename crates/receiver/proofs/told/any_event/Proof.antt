@@ -1,8 +1,8 @@
--- `receiver_feed::turns::any_event` meets its contract. Assumes nothing.
+-- `receiver::told::any_event` meets its contract. Assumes nothing.
 use Rattle.receiver.specs.Feed.{anyEvent}
 use borrow.Author.Needs.{needs}
-use Rattle.receiver_feed.proofs.turns.any_event.Statement.{statement}
-use Rattle.receiver_feed.proofs.turns.any_event.Tie as tie
+use Rattle.receiver.proofs.told.any_event.Statement.{statement}
+use Rattle.receiver.proofs.told.any_event.Tie as tie
 
 is-event-requires : tie.Need-is-event-requires
 is-event-requires c κs = search needs
