@@ -5,10 +5,11 @@ use crate::port;
 use crate::stage_check::Stage;
 use cases::demap::calls::Call;
 use cases::demap::kinds::KINDS;
-use cases::demap::player::{Player, Totals};
+use cases::demap::player::Player;
 use cases::demap::soft::{self, Demap, Rotated, Turner};
 use cases::fx::Answer;
 use cases::inputs::{self, Random, Size};
+use cases::stage::Totals;
 use std::fmt::Debug;
 
 #[derive(Default)]

@@ -5,7 +5,8 @@ use crate::stage_check::Stage;
 use cases::inputs::{Random, Size};
 use cases::phase::calls::Call;
 use cases::phase::kinds::KINDS;
-use cases::phase::player::{Player, Totals};
+use cases::phase::player::Player;
+use cases::stage::Totals;
 
 pub fn compare(size: Size, seed: u64) {
     println!("comparing with the Rust's Nco in chain/sync.rs and its chain/phase.rs, seed {seed}");

@@ -6,39 +6,15 @@ use super::desk::{lent, Desk};
 use super::model::{labels, numbers, Force, LABELS, NUMBERS, RULES};
 use super::soft::pairs;
 use crate::inputs::Random;
-use crate::stage::{Owed, Sink};
+use crate::stage::{Calls, Sink, Totals};
 use crate::sync::calls::digest;
 use isdbs3_core::params::CodeRate;
 use isdbs3_core::slots::Slot;
 use isdbs3_phy::chain::demap::{self as rust, MODULATIONS};
 use std::fmt::Debug;
 
-const BLOCK: usize = 1 << 16;
-
 /// The right length.
 pub const ALL: u64 = NUMBERS as u64;
-
-#[derive(Default, Clone, Copy)]
-pub struct Totals {
-    pub calls: u64,
-    pub by_rust: u64,
-    pub refused: u64,
-}
-
-impl std::fmt::Display for Totals {
-    fn fmt(&self, out: &mut std::fmt::Formatter) -> std::fmt::Result {
-        let Self { calls, by_rust, refused } = self;
-        write!(out, "{calls:>9} calls, {by_rust:>9} by the Rust, {refused:>7} refused")
-    }
-}
-
-impl std::ops::AddAssign for Totals {
-    fn add_assign(&mut self, more: Self) {
-        self.calls += more.calls;
-        self.by_rust += more.by_rust;
-        self.refused += more.refused;
-    }
-}
 
 pub struct Player<'a> {
     pub desk: Desk,
@@ -49,11 +25,9 @@ pub struct Player<'a> {
     rate: CodeRate,
     /// For a sample: short.
     pub sparse: bool,
-    sink: &'a mut Sink<'a>,
-    bytes: Vec<u8>,
-    owed: Vec<Owed>,
+    calls: Calls<'a>,
     disguise: Random,
-    totals: Totals,
+    by_rust: u64,
 }
 
 fn flat(points: &[[i16; 2]]) -> Vec<i16> {
@@ -69,11 +43,9 @@ impl<'a> Player<'a> {
             force: None,
             rate: CodeRate(81),
             sparse: false,
-            sink,
-            bytes: Vec::with_capacity(BLOCK),
-            owed: Vec::new(),
+            calls: Calls::new(sink),
             disguise: Random(!seed),
-            totals: Totals::default(),
+            by_rust: 0,
         };
         let nominal = MODULATIONS.iter().flat_map(|&m| flat(&rust::nominal(m, player.rate)));
         for (k, v) in (0..).zip(nominal.collect::<Vec<i16>>()) {
@@ -86,34 +58,19 @@ impl<'a> Player<'a> {
         Self { sparse: true, ..Self::new(seed, sink) }
     }
 
-    fn owe(&mut self, call: Numbers, told: Numbers) {
-        self.totals.calls += 1;
-        self.totals.refused += u64::from(told[0] != 0);
-        self.bytes.extend(call.iter().flat_map(|n| n.to_le_bytes()));
-        self.owed.push(Owed { told, call, place: self.totals.calls });
-        if self.bytes.len() >= BLOCK {
-            self.flush();
-        }
-    }
-
-    fn flush(&mut self) {
-        let bytes = std::mem::replace(&mut self.bytes, Vec::with_capacity(BLOCK));
-        (self.sink)(bytes, std::mem::take(&mut self.owed));
-    }
-
     /// One call in four goes in other numbers than its plain ones.
     pub fn ask(&mut self, call: Call) -> Numbers {
         let plain = self.disguise.below(4) != 0;
         let numbers = if plain { call.numbers() } else { call.in_disguise(&mut self.disguise) };
         let told = self.desk.answer(Some(call));
-        self.owe(numbers, told);
+        self.calls.owe(numbers, told);
         told
     }
 
     /// A call that there is not.
     pub fn unknown(&mut self, call: Numbers) {
         let told = self.desk.answer(None);
-        self.owe(call, told);
+        self.calls.owe(call, told);
     }
 
     /// A call that document 01 refuses with this number, or 0 for one that it takes: what is expected does not rest on the
@@ -126,13 +83,13 @@ impl<'a> Player<'a> {
     /// The model's, and the Rust's.
     fn agree<T: PartialEq + Debug>(&mut self, model: T, rust: T) {
         assert!(model == rust, "THE MODEL IS WRONG: {model:?}\nthe Rust:  {rust:?}");
-        self.totals.by_rust += 1;
+        self.by_rust += 1;
     }
 
     pub fn end(mut self) -> Totals {
         self.tell_all();
-        self.flush();
-        self.totals
+        let (calls, refused) = self.calls.end();
+        Totals { calls, by_rust: self.by_rust, refused }
     }
 
     // ---- what is kept
@@ -226,7 +183,7 @@ impl<'a> Player<'a> {
 
     /// The Rust has shown what it makes of all that it was given.
     fn shown(&mut self) {
-        self.totals.by_rust += std::mem::take(&mut self.fed);
+        self.by_rust += std::mem::take(&mut self.fed);
     }
 
     pub fn points(&mut self, bits: u64) -> u64 {

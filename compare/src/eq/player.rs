@@ -6,17 +6,13 @@ use super::calls::{Call, Equaliser, Numbers, Pairs, Sums};
 use super::desk::{Answer, Desk, Said};
 use super::model::{no_sums, RULES};
 use crate::inputs::Random;
-use crate::stage::{Owed, Sink};
+use crate::stage::{self, Calls, Sink};
 use isdbs3_phy::chain::eq as rust;
 use std::fmt::Debug;
 
-const BLOCK: usize = 1 << 16;
-
 #[derive(Default, Clone)]
 pub struct Totals {
-    pub calls: u64,
-    pub by_rust: u64,
-    pub refused: u64,
+    pub calls: stage::Totals,
     pub solved: Solved,
 }
 
@@ -36,8 +32,8 @@ pub struct Solved {
 
 impl std::fmt::Display for Totals {
     fn fmt(&self, out: &mut std::fmt::Formatter) -> std::fmt::Result {
-        let Self { calls, by_rust, refused, solved } = self;
-        write!(out, "{calls:>9} calls, {by_rust:>9} by the Rust, {refused:>7} refused")?;
+        let Self { calls, solved } = self;
+        write!(out, "{calls}")?;
         if solved.both != 0 {
             write!(out, ", taps alike in {} of {}", solved.agreed, solved.both)?;
         }
@@ -62,8 +58,6 @@ impl std::fmt::Display for Solved {
 impl std::ops::AddAssign for Totals {
     fn add_assign(&mut self, more: Self) {
         self.calls += more.calls;
-        self.by_rust += more.by_rust;
-        self.refused += more.refused;
         let (all, more) = (&mut self.solved, more.solved);
         all.both += more.both;
         all.agreed += more.agreed;
@@ -165,11 +159,10 @@ pub struct Player<'a> {
     /// Of calls that may be left out, one in so many is made.
     every: u64,
     offered: u64,
-    sink: &'a mut Sink<'a>,
-    bytes: Vec<u8>,
-    owed: Vec<Owed>,
+    calls: Calls<'a>,
     disguise: Random,
-    totals: Totals,
+    by_rust: u64,
+    solved: Solved,
 }
 
 impl<'a> Player<'a> {
@@ -179,11 +172,10 @@ impl<'a> Player<'a> {
             rust: None,
             every: 1,
             offered: 0,
-            sink,
-            bytes: Vec::with_capacity(BLOCK),
-            owed: Vec::new(),
+            calls: Calls::new(sink),
             disguise: Random(!seed),
-            totals: Totals::default(),
+            by_rust: 0,
+            solved: Solved::default(),
         }
     }
 
@@ -198,24 +190,9 @@ impl<'a> Player<'a> {
         self.offered % self.every == 0
     }
 
-    fn owe(&mut self, call: Numbers, answer: &Answer) {
-        self.totals.calls += 1;
-        self.totals.refused += u64::from(answer.refusal != 0);
-        self.bytes.extend(call.iter().flat_map(|n| n.to_le_bytes()));
-        self.owed.push(Owed { told: answer.numbers, call, place: self.totals.calls });
-        if self.bytes.len() >= BLOCK {
-            self.flush();
-        }
-    }
-
-    fn flush(&mut self) {
-        let bytes = std::mem::replace(&mut self.bytes, Vec::with_capacity(BLOCK));
-        (self.sink)(bytes, std::mem::take(&mut self.owed));
-    }
-
-    pub fn end(mut self) -> Totals {
-        self.flush();
-        self.totals
+    pub fn end(self) -> Totals {
+        let (calls, refused) = self.calls.end();
+        Totals { calls: stage::Totals { calls, by_rust: self.by_rust, refused }, solved: self.solved }
     }
 
     pub fn state(&self) -> &Equaliser {
@@ -235,7 +212,7 @@ impl<'a> Player<'a> {
         if answer.refusal == 0 {
             if let Some(beside) = &mut self.rust {
                 beside.go(call, &answer.said, &self.desk.eq, &self.desk.sums);
-                self.totals.by_rust += 1;
+                self.by_rust += 1;
             }
         }
     }
@@ -248,7 +225,7 @@ impl<'a> Player<'a> {
             assert!(s.count != 0 || rust::solve_sums(&rust_sums(s)).is_none());
             return;
         }
-        let all = &mut self.totals.solved;
+        let all = &mut self.solved;
         match (answer.refusal, rust::solve_sums(&rust_sums(s))) {
             (0, Some(rust)) => {
                 let far = taps.iter().zip(rust.iter().flatten()).map(|(a, b)| u32::from(a.abs_diff(*b)));
@@ -281,14 +258,14 @@ impl<'a> Player<'a> {
         let numbers = if plain { call.numbers() } else { call.in_disguise(&mut self.disguise) };
         let answer = self.desk.answer(Some(call));
         self.go_beside(&call, &answer);
-        self.owe(numbers, &answer);
+        self.calls.owe(numbers, answer.numbers);
         answer
     }
 
     /// A call that there is not.
     pub fn unknown(&mut self, call: Numbers) {
         let answer = self.desk.answer(None);
-        self.owe(call, &answer);
+        self.calls.owe(call, answer.numbers);
     }
 
     /// A call that document 01 refuses with this number, or 0 for one that it takes: what is expected does not rest on the

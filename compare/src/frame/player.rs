@@ -10,7 +10,7 @@ use crate::eq::player::{agree, pairs, rust_sums};
 use crate::inputs::Random;
 use crate::phase::calls::{Corrected, Numbers};
 use crate::phase::player::rust_word;
-use crate::stage::{Owed, Sink};
+use crate::stage::{Calls, Sink};
 use isdb_frontend::s3sync::choose_words;
 use isdbs3_core::params::{CodeRate, Modulation, SLOTS};
 use isdbs3_core::slots::{choose_layout, Slot};
@@ -21,8 +21,6 @@ use isdbs3_phy::chain::ldpc::FixedLdpc;
 use isdbs3_phy::chain::phase as rust_phase;
 use isdbs3_phy::chain::sync::SyncStats;
 use isdbs3_phy::chain::EQ_APPLY_FRAMES;
-
-const BLOCK: usize = 1 << 16;
 
 /// So many frames behind the one that names it a layout is in force; and the Rust solves in every so many.
 const LAG: u32 = 1;
@@ -240,10 +238,9 @@ impl Beside {
 pub struct Player<'a> {
     desk: Desk,
     rust: Option<Beside>,
-    sink: &'a mut Sink<'a>,
-    bytes: Vec<u8>,
-    owed: Vec<Owed>,
+    calls: Calls<'a>,
     disguise: Random,
+    /// But for calls and refusals, which `calls` counts.
     totals: Totals,
 }
 
@@ -252,32 +249,15 @@ impl<'a> Player<'a> {
         Self {
             desk: Desk::new(RULES),
             rust: None,
-            sink,
-            bytes: Vec::with_capacity(BLOCK),
-            owed: Vec::new(),
+            calls: Calls::new(sink),
             disguise: Random(!seed),
             totals: Totals::default(),
         }
     }
 
-    fn owe(&mut self, call: Numbers, answer: &Answer) {
-        self.totals.calls += 1;
-        self.totals.refused += u64::from(answer.refusal != 0);
-        self.bytes.extend(call.iter().flat_map(|n| n.to_le_bytes()));
-        self.owed.push(Owed { told: answer.numbers, call, place: self.totals.calls });
-        if self.bytes.len() >= BLOCK {
-            self.flush();
-        }
-    }
-
-    fn flush(&mut self) {
-        let bytes = std::mem::replace(&mut self.bytes, Vec::with_capacity(BLOCK));
-        (self.sink)(bytes, std::mem::take(&mut self.owed));
-    }
-
-    pub fn end(mut self) -> Totals {
-        self.flush();
-        self.totals
+    pub fn end(self) -> Totals {
+        let (calls, refused) = self.calls.end();
+        Totals { calls, refused, ..self.totals }
     }
 
     pub fn desk(&self) -> &Desk {
@@ -305,7 +285,7 @@ impl<'a> Player<'a> {
         let plain = self.disguise.below(4) != 0;
         let numbers = if plain { call.numbers() } else { call.in_disguise(&mut self.disguise) };
         let answer = self.desk.answer(Some(call));
-        self.owe(numbers, &answer);
+        self.calls.owe(numbers, answer.numbers);
         answer
     }
 
@@ -376,7 +356,7 @@ impl<'a> Player<'a> {
     /// A call that there is not.
     pub fn unknown(&mut self, call: Numbers) {
         let answer = self.desk.answer(None);
-        self.owe(call, &answer);
+        self.calls.owe(call, answer.numbers);
     }
 
     /// A call that document 01 refuses with this number, or 0 for one that it takes: what is expected does not rest on the

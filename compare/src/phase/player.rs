@@ -5,39 +5,15 @@ use super::calls::{Answer, Call, Corrected, Head, Held, Nco, Numbers, Phase, Who
 use super::desk::Desk;
 use super::model::{looked_up, RULES, SLOT};
 use crate::inputs::Random;
-use crate::stage::{Owed, Sink};
+use crate::stage::{Calls, Sink, Totals};
 use isdb_frontend::tables::choose_table;
 use isdbs3_phy::chain::phase as rust_phase;
 use isdbs3_phy::chain::sync as rust_sync;
 use std::fmt::Debug;
 
-const BLOCK: usize = 1 << 16;
-
 /// The right lengths.
 pub const ENTRIES: u64 = 1_024;
 pub const PLACES: u64 = 18_592;
-
-#[derive(Default, Clone, Copy)]
-pub struct Totals {
-    pub calls: u64,
-    pub by_rust: u64,
-    pub refused: u64,
-}
-
-impl std::fmt::Display for Totals {
-    fn fmt(&self, out: &mut std::fmt::Formatter) -> std::fmt::Result {
-        let Self { calls, by_rust, refused } = self;
-        write!(out, "{calls:>9} calls, {by_rust:>9} by the Rust, {refused:>7} refused")
-    }
-}
-
-impl std::ops::AddAssign for Totals {
-    fn add_assign(&mut self, more: Self) {
-        self.calls += more.calls;
-        self.by_rust += more.by_rust;
-        self.refused += more.refused;
-    }
-}
 
 pub struct Player<'a> {
     desk: Desk,
@@ -47,11 +23,9 @@ pub struct Player<'a> {
     /// Of calls that may be left out, one in so many is made.
     every: u64,
     offered: u64,
-    sink: &'a mut Sink<'a>,
-    bytes: Vec<u8>,
-    owed: Vec<Owed>,
+    calls: Calls<'a>,
     disguise: Random,
-    totals: Totals,
+    by_rust: u64,
 }
 
 impl<'a> Player<'a> {
@@ -62,11 +36,9 @@ impl<'a> Player<'a> {
             sparse: false,
             every: 1,
             offered: 0,
-            sink,
-            bytes: Vec::with_capacity(BLOCK),
-            owed: Vec::new(),
+            calls: Calls::new(sink),
             disguise: Random(!seed),
-            totals: Totals::default(),
+            by_rust: 0,
         };
         player.set_table(&[0; ENTRIES as usize]);
         player
@@ -75,21 +47,6 @@ impl<'a> Player<'a> {
     /// For a sample: short.
     pub fn sparse(seed: u64, every: u64, sink: &'a mut Sink<'a>) -> Self {
         Self { sparse: true, every, ..Self::new(seed, sink) }
-    }
-
-    fn owe(&mut self, call: Numbers, answer: &Answer) {
-        self.totals.calls += 1;
-        self.totals.refused += u64::from(answer.refusal() != 0);
-        self.bytes.extend(call.iter().flat_map(|n| n.to_le_bytes()));
-        self.owed.push(Owed { told: answer.numbers(), call, place: self.totals.calls });
-        if self.bytes.len() >= BLOCK {
-            self.flush();
-        }
-    }
-
-    fn flush(&mut self) {
-        let bytes = std::mem::replace(&mut self.bytes, Vec::with_capacity(BLOCK));
-        (self.sink)(bytes, std::mem::take(&mut self.owed));
     }
 
     /// The entries that an accepted call looks up.
@@ -112,14 +69,14 @@ impl<'a> Player<'a> {
         let plain = self.disguise.below(4) != 0;
         let numbers = if plain { call.numbers() } else { call.in_disguise(&mut self.disguise) };
         let answer = self.desk.answer(Some(call));
-        self.owe(numbers, &answer);
+        self.calls.owe(numbers, answer.numbers());
         answer
     }
 
     /// A call that there is not.
     pub fn unknown(&mut self, call: Numbers) {
         let answer = self.desk.answer(None);
-        self.owe(call, &answer);
+        self.calls.owe(call, answer.numbers());
     }
 
     /// A call that document 01 refuses with this number, or 0 for one that it takes: what is expected does not rest on the
@@ -141,14 +98,14 @@ impl<'a> Player<'a> {
 
     pub fn end(mut self) -> Totals {
         self.digests();
-        self.flush();
-        self.totals
+        let (calls, refused) = self.calls.end();
+        Totals { calls, by_rust: self.by_rust, refused }
     }
 
     /// The last answer, of the model and of the Rust.
     fn agree<T: PartialEq + Debug>(&mut self, model: T, rust: T) {
         assert!(model == rust, "THE MODEL IS WRONG: {model:?}\nthe Rust:  {rust:?}");
-        self.totals.by_rust += 1;
+        self.by_rust += 1;
     }
 
     fn set_entry(&mut self, k: usize) {

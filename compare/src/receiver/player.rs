@@ -12,13 +12,11 @@ use crate::eq::calls::Call as EqCall;
 use crate::frame::calls::Ones;
 use crate::inputs::{pick, Random};
 use crate::phase::calls::Numbers;
-use crate::stage::{Owed, Sink};
+use crate::stage::{Calls, Sink};
 use crate::sync::calls::{Event, Kind};
 use isdb_frontend::s3sync::choose_words;
 use isdb_frontend::tables::choose_table;
 use isdbs3_phy::chain::sync::Word;
-
-const BLOCK: usize = 1 << 16;
 
 /// What symbols told.
 #[derive(Default, Clone)]
@@ -144,10 +142,9 @@ pub struct Player<'a> {
     /// Symbols that were not played yet, and how many will be played together.
     waiting: Vec<[i8; 2]>,
     group: usize,
-    sink: &'a mut Sink<'a>,
-    bytes: Vec<u8>,
-    owed: Vec<Owed>,
+    calls: Calls<'a>,
     random: Random,
+    /// But for calls and refusals, which `calls` counts.
     pub totals: Totals,
 }
 
@@ -159,33 +156,16 @@ impl<'a> Player<'a> {
             rust: None,
             waiting: Vec::with_capacity(PLAY),
             group: PLAY,
-            sink,
-            bytes: Vec::with_capacity(BLOCK),
-            owed: Vec::new(),
+            calls: Calls::new(sink),
             random: Random(!seed),
             totals: Totals::default(),
         }
     }
 
-    fn owe(&mut self, call: Numbers, told: Numbers) {
-        self.totals.calls += 1;
-        self.totals.refused += u64::from(told[0] != 0);
-        self.bytes.extend(call.iter().flat_map(|n| n.to_le_bytes()));
-        self.owed.push(Owed { told, call, place: self.totals.calls });
-        if self.bytes.len() >= BLOCK {
-            self.flush();
-        }
-    }
-
-    fn flush(&mut self) {
-        let bytes = std::mem::replace(&mut self.bytes, Vec::with_capacity(BLOCK));
-        (self.sink)(bytes, std::mem::take(&mut self.owed));
-    }
-
     pub fn end(mut self) -> Totals {
         self.played(&Answer::refused(0));
-        self.flush();
-        self.totals
+        let (calls, refused) = self.calls.end();
+        Totals { calls, refused, ..self.totals }
     }
 
     /// The symbols that wait as one play or feed, which ends with this answer.
@@ -204,7 +184,7 @@ impl<'a> Player<'a> {
         self.desk.events = last.events;
         if self.random.below(2) == 0 {
             let (n, lent) = (self.or_more(n + more, PLAY), self.lent_now());
-            self.owe(Call::Play { n, lent, symbols }.numbers(), played(last, used as u64));
+            self.calls.owe(Call::Play { n, lent, symbols }.numbers(), played(last, used as u64));
         } else {
             self.fed(n + more, &symbols, last, used);
         }
@@ -227,7 +207,7 @@ impl<'a> Player<'a> {
         let (bytes, again) = (odd(n), odd(1) as u64);
         let bytes = self.or_more(bytes, 2 * PLAY);
         let told = if stops { played(&Answer::refused(0), used as u64) } else { played(last, used as u64) };
-        self.owe(Call::Feed { n: bytes, lent, symbols: *symbols }.numbers(), told);
+        self.calls.owe(Call::Feed { n: bytes, lent, symbols: *symbols }.numbers(), told);
         self.totals.fed += used as u64;
         if stops {
             if let Some(stops) = self.totals.stops.get_mut(usize::from(last.refusal).wrapping_sub(6)) {
@@ -239,7 +219,7 @@ impl<'a> Player<'a> {
                 0 => Call::Play { n: 1, lent, symbols: one },
                 _ => Call::Feed { n: again, lent, symbols: one },
             };
-            self.owe(call.numbers(), played(last, 0));
+            self.calls.owe(call.numbers(), played(last, 0));
         }
     }
 
@@ -268,7 +248,7 @@ impl<'a> Player<'a> {
         let told = self.desk.answer(Some(&call));
         let plain = self.random.below(4) != 0;
         let numbers = if plain { call.numbers() } else { call.in_disguise(&mut self.random) };
-        self.owe(numbers, told);
+        self.calls.owe(numbers, told);
         told
     }
 
@@ -348,7 +328,7 @@ impl<'a> Player<'a> {
         let of = Call::of_numbers(&call);
         assert!(of.is_none(), "{of:?}");
         let told = self.desk.answer(None);
-        self.owe(call, told);
+        self.calls.owe(call, told);
         self.look();
     }
 

@@ -3,6 +3,7 @@
 use super::calls::{place, Answer, Call, Event, Told, Word};
 use super::desk::Desk;
 use super::model::{Lock, Reading, Stage, State, RULES};
+use crate::blocks::{Blocks, Sink};
 
 /// When an answer is told. The digest holds all of them, told or not.
 #[derive(Clone, Copy)]
@@ -24,17 +25,10 @@ pub struct Owed {
     pub symbol: [i16; 2],
 }
 
-/// Where calls and owed answers go.
-pub type Sink<'a> = dyn FnMut(Vec<u8>, Vec<Owed>) + 'a;
-
-const BLOCK: usize = 1 << 16;
-
 pub struct Player<'a> {
     pub desk: Desk,
     telling: Telling,
-    sink: &'a mut Sink<'a>,
-    calls: Vec<u8>,
-    owed: Vec<Owed>,
+    blocks: Blocks<'a, Owed>,
     pub pushes: u64,
     pub events: u64,
     pub losses: u64,
@@ -48,13 +42,11 @@ pub struct Player<'a> {
 }
 
 impl<'a> Player<'a> {
-    pub fn new(telling: Telling, sink: &'a mut Sink<'a>) -> Self {
+    pub fn new(telling: Telling, sink: &'a mut Sink<'a, Owed>) -> Self {
         let mut player = Self {
             desk: Desk::new(RULES),
             telling,
-            sink,
-            calls: Vec::with_capacity(BLOCK),
-            owed: Vec::new(),
+            blocks: Blocks::new(sink),
             pushes: 0,
             events: 0,
             losses: 0,
@@ -69,21 +61,9 @@ impl<'a> Player<'a> {
         player
     }
 
-    fn write(&mut self, call: Call) {
-        self.calls.extend(call.bytes());
-        if self.calls.len() >= BLOCK {
-            self.flush();
-        }
-    }
-
-    fn flush(&mut self) {
-        let calls = std::mem::replace(&mut self.calls, Vec::with_capacity(BLOCK));
-        (self.sink)(calls, std::mem::take(&mut self.owed));
-    }
-
     fn end_run(&mut self) {
         if self.run > 0 {
-            self.write(Call::Push(self.run, self.symbol));
+            self.blocks.write(Call::Push(self.run, self.symbol).bytes());
             self.run = 0;
         }
     }
@@ -92,19 +72,19 @@ impl<'a> Player<'a> {
     pub fn call(&mut self, call: Call) {
         self.end_run();
         self.desk.call(call);
-        self.write(call);
+        self.blocks.write(call.bytes());
     }
 
     pub fn tell(&mut self) {
         self.end_run();
         self.told_at = self.pushes;
-        self.owed.push(Owed {
+        self.blocks.owe(Owed {
             told: self.desk.told,
             pushes: self.pushes,
             position: self.desk.position(),
             symbol: self.symbol,
         });
-        self.write(Call::Tell);
+        self.blocks.write(Call::Tell.bytes());
     }
 
     /// An answer that is told and given back.
@@ -146,7 +126,7 @@ impl<'a> Player<'a> {
     pub fn end(mut self) -> Totals {
         self.call(Call::Fold);
         self.tell();
-        self.flush();
+        self.blocks.flush();
         let Self { pushes, events, losses, refused, .. } = self;
         Totals { pushes, events, losses, refused, by_rust: self.desk.by_rust }
     }
