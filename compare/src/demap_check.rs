@@ -2,14 +2,10 @@
 //! all numbers of all answers, while the Rust goes beside it.
 
 use crate::port;
-use crate::stage_check::Stage;
-use cases::demap::calls::Call;
-use cases::demap::kinds::KINDS;
-use cases::demap::player::Player;
+use crate::stage_check::compare_stage;
 use cases::demap::soft::{self, Demap, Rotated, Turner};
 use cases::fx::Answer;
 use cases::inputs::{self, Random, Size};
-use cases::stage::Totals;
 use std::fmt::Debug;
 
 #[derive(Default)]
@@ -86,18 +82,7 @@ fn rotations(calls: u64, random: &mut Random) {
 }
 
 fn learning(size: Size, seed: u64) {
-    let all: Totals = Stage {
-        variable: "DEMAP_REPLAY",
-        program: "demap_replay",
-        call: |n| Call::of_numbers(n).map(|c| format!("{c:?}")),
-        kinds: KINDS.iter().map(|k| k.name).collect(),
-        play: &|k, seed, sink| {
-            let mut player = Player::new(seed, sink);
-            (KINDS[k].play)(&mut player, &mut Random(seed), size);
-            player.end()
-        },
-    }
-    .compare(seed);
+    let all = compare_stage!(demap, "DEMAP_REPLAY", size, seed);
     println!("{:22} {all}: no difference", "all of learning");
 }
 

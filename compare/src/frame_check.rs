@@ -3,12 +3,9 @@
 //! beside it.
 
 use crate::port;
-use crate::stage_check::Stage;
-use cases::frame::calls::Call;
-use cases::frame::kinds::KINDS;
-use cases::frame::player::{Player, Totals};
+use crate::stage_check::compare_stage;
 use cases::frame::{part_of, PLACES};
-use cases::inputs::{Random, Size};
+use cases::inputs::Size;
 
 fn same(j: usize) {
     let (expected, given) = (part_of(j), port::part(j));
@@ -30,17 +27,6 @@ fn compare_map() {
 pub fn compare(size: Size, seed: u64) {
     println!("comparing with the Rust's chain/frame.rs, seed {seed}");
     compare_map();
-    let all: Totals = Stage {
-        variable: "FRAME_REPLAY",
-        program: "frame_replay",
-        call: |n| Call::of_numbers(n).map(|c| format!("{c:?}")),
-        kinds: KINDS.iter().map(|k| k.name).collect(),
-        play: &|k, seed, sink| {
-            let mut player = Player::new(seed, sink);
-            (KINDS[k].play)(&mut player, &mut Random(seed), size);
-            player.end()
-        },
-    }
-    .compare(seed);
+    let all = compare_stage!(frame, "FRAME_REPLAY", size, seed);
     println!("{:22} {all}: no difference", "all of frame");
 }

@@ -45,3 +45,24 @@ impl<T: Default + AddAssign + Display> Stage<'_, T> {
         all
     }
 }
+
+/// Compares the stage of this module in `cases`, with all its kinds of calls.
+macro_rules! compare_stage {
+    ($stage:ident, $variable:literal, $size:expr, $seed:expr) => {{
+        use cases::$stage::{calls::Call, kinds::KINDS, player::Player};
+        $crate::stage_check::Stage {
+            variable: $variable,
+            program: concat!(stringify!($stage), "_replay"),
+            call: |n| Call::of_numbers(n).map(|c| format!("{c:?}")),
+            kinds: KINDS.iter().map(|k| k.name).collect(),
+            play: &|k, seed, sink| {
+                let mut player = Player::new(seed, sink);
+                (KINDS[k].play)(&mut player, &mut cases::inputs::Random(seed), $size);
+                player.end()
+            },
+        }
+        .compare($seed)
+    }};
+}
+
+pub(crate) use compare_stage;
