@@ -20,18 +20,24 @@ const RANDOM: u64 = 10_000_000;
 const QUICK: u64 = 100_000;
 
 struct Arguments {
-    fx: bool,
-    sync: bool,
-    phase: bool,
-    demap: bool,
-    eq: bool,
-    frame: bool,
-    receiver: bool,
+    /// Names of parts; none of them: all.
+    parts: Vec<String>,
     /// Random calls a function of fx.
     calls: u64,
     size: Size,
     seed: u64,
 }
+
+/// What can be compared by itself, in the order in which it is.
+const PARTS: [(&str, fn(&Arguments)); 7] = [
+    ("fx", |a| fx_check::compare(a.calls, a.seed)),
+    ("sync", |a| sync_check::compare(a.size, a.seed)),
+    ("phase", |a| phase_check::compare(a.size, a.seed)),
+    ("demap", |a| demap_check::compare(a.size, a.seed)),
+    ("eq", |a| eq_check::compare(a.size, a.seed)),
+    ("frame", |a| frame_check::compare(a.size, a.seed)),
+    ("receiver", |a| receiver_check::compare(a.size, a.seed)),
+];
 
 fn usage() -> ! {
     eprintln!("usage: compare [fx] [sync] [phase] [demap] [eq] [frame] [receiver] [--quick | --full] [--seed NUMBER]");
@@ -39,61 +45,25 @@ fn usage() -> ! {
 }
 
 fn arguments() -> Arguments {
-    let mut a = Arguments {
-        fx: false,
-        sync: false,
-        phase: false,
-        demap: false,
-        eq: false,
-        frame: false,
-        receiver: false,
-        calls: RANDOM,
-        size: Size::Short,
-        seed: SEED,
-    };
+    let mut a = Arguments { parts: Vec::new(), calls: RANDOM, size: Size::Short, seed: SEED };
     let mut words = std::env::args().skip(1);
     while let Some(word) = words.next() {
         match word.as_str() {
-            "fx" => a.fx = true,
-            "sync" => a.sync = true,
-            "phase" => a.phase = true,
-            "demap" => a.demap = true,
-            "eq" => a.eq = true,
-            "frame" => a.frame = true,
-            "receiver" => a.receiver = true,
             "--quick" => a.calls = QUICK,
             "--full" => a.size = Size::Full,
             "--seed" => a.seed = words.next().and_then(|n| n.parse().ok()).unwrap_or_else(|| usage()),
+            part if PARTS.iter().any(|(name, _)| *name == part) => a.parts.push(word),
             _ => usage(),
         }
-    }
-    if !(a.fx || a.sync || a.phase || a.demap || a.eq || a.frame || a.receiver) {
-        (a.fx, a.sync, a.phase, a.demap, a.eq, a.frame, a.receiver) = (true, true, true, true, true, true, true);
     }
     a
 }
 
 fn main() {
     let a = arguments();
-    if a.fx {
-        fx_check::compare(a.calls, a.seed);
-    }
-    if a.sync {
-        sync_check::compare(a.size, a.seed);
-    }
-    if a.phase {
-        phase_check::compare(a.size, a.seed);
-    }
-    if a.demap {
-        demap_check::compare(a.size, a.seed);
-    }
-    if a.eq {
-        eq_check::compare(a.size, a.seed);
-    }
-    if a.frame {
-        frame_check::compare(a.size, a.seed);
-    }
-    if a.receiver {
-        receiver_check::compare(a.size, a.seed);
+    for (name, compare) in PARTS {
+        if a.parts.is_empty() || a.parts.iter().any(|part| part == name) {
+            compare(&a);
+        }
     }
 }
