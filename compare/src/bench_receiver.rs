@@ -41,43 +41,34 @@ struct Received {
     refusal: u8,
 }
 
-extern "C" {
-    fn sv_bench_receive(
-        bytes: *const i8,
-        len: usize,
-        words: Words,
-        table: *const i16,
-        entries: usize,
-        bits: u8,
-        points: *const i16,
-        numbers: usize,
-        k: i64,
-        calls: u32,
-        acc: *mut u32,
-        accs: usize,
-        store: *mut i16,
-        stored: usize,
-        soft: *mut i8,
-        softs: usize,
-    ) -> Received;
-    fn sv_bench_symbols(
-        bytes: *const i8,
-        len: usize,
-        words: Words,
-        table: *const i16,
-        entries: usize,
-        bits: u8,
-        points: *const i16,
-        numbers: usize,
-        k: i64,
-        acc: *mut u32,
-        accs: usize,
-        store: *mut i16,
-        stored: usize,
-        soft: *mut i8,
-        softs: usize,
-    ) -> Received;
+/// An entry of the port: both take the same, but for how many calls of `feed` are made.
+macro_rules! entry {
+    ($entry:ident $(, $calls:ident: $count:ty)?) => {
+        extern "C" {
+            fn $entry(
+                bytes: *const i8,
+                len: usize,
+                words: Words,
+                table: *const i16,
+                entries: usize,
+                bits: u8,
+                points: *const i16,
+                numbers: usize,
+                k: i64,
+                $($calls: $count,)?
+                acc: *mut u32,
+                accs: usize,
+                store: *mut i16,
+                stored: usize,
+                soft: *mut i8,
+                softs: usize,
+            ) -> Received;
+        }
+    };
 }
+
+entry!(sv_bench_receive, calls: u32);
+entry!(sv_bench_symbols);
 
 fn flat(word: u32) -> [i8; 48] {
     let pairs = word_symbols(word);
@@ -223,7 +214,6 @@ fn port(input: &Input, entry: &str) -> Vec<i8> {
     let flat: Vec<i16> = input.points.iter().flatten().copied().collect();
     let (b, t) = (&input.bytes, &input.table);
     let bits = input.bits as u8;
-    // both entries take the same, but for how many calls of `feed` are made
     macro_rules! received {
         ($entry:ident $(, $calls:expr)?) => {
             $entry(
