@@ -13,10 +13,11 @@ use crate::frame::calls::Ones;
 use crate::inputs::{pick, Random};
 use crate::phase::calls::Numbers;
 use crate::stage::{Calls, Sink};
-use crate::sync::calls::{Event, Kind};
+use crate::sync::calls::Event;
+use crate::sync::desk::told;
 use isdb_frontend::s3sync::choose_words;
 use isdb_frontend::tables::choose_table;
-use isdbs3_phy::chain::sync::Word;
+use isdbs3_phy::chain::sync::SyncEvent;
 
 /// What symbols told.
 #[derive(Default, Clone)]
@@ -102,30 +103,9 @@ impl std::ops::AddAssign for Totals {
 
 fn event_of(e: &wired::Event) -> Event {
     match *e {
-        wired::Event::Head(h) => Event::Head {
-            at: h.at,
-            word: match h.word {
-                Word::Ssync => Kind::Ssync,
-                Word::Fsync => Kind::Fsync,
-                Word::NotFsync => Kind::NotFsync,
-            },
-            corr: h.corr,
-            theta: h.theta,
-            amp: h.amp,
-            slot: h.number.zip(h.frame),
-            nco_phase: h.nco_phase,
-        },
-        wired::Event::Period(p) => Event::Period {
-            peak: p.peak,
-            place: p.peak_pos,
-            sum: p.sum,
-            locked: p.locked,
-            offset: p.offset,
-            parity: p.ssync_parity,
-            stray: p.stray_markers,
-            missed: p.missed_markers,
-        },
-        wired::Event::Lost(at) => Event::Lost { at },
+        wired::Event::Head(h) => told(&SyncEvent::Head(h), 0),
+        wired::Event::Period(p) => told(&SyncEvent::Period(p), 0),
+        wired::Event::Lost(at) => told(&SyncEvent::Lost, at),
     }
 }
 

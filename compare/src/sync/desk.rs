@@ -43,7 +43,7 @@ impl Original {
 }
 
 /// An event of the Rust; a loss restarts at the next symbol's position.
-fn told(event: &SyncEvent, next: u64) -> Event {
+pub(crate) fn told(event: &SyncEvent, next: u64) -> Event {
     match event {
         SyncEvent::Head(h) => Event::Head {
             at: h.at,
