@@ -14,6 +14,15 @@ pub enum Size {
     Full,
 }
 
+/// As many as the run's size asks for.
+pub fn times(size: Size, [sample, short, full]: [u64; 3]) -> u64 {
+    match size {
+        Size::Sample => sample,
+        Size::Short => short,
+        Size::Full => full,
+    }
+}
+
 /// splitmix64: the same numbers from the same seed everywhere.
 pub struct Random(pub u64);
 

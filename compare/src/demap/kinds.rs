@@ -4,7 +4,7 @@ use super::calls::{Block, Call};
 use super::model::{labels, Force};
 use super::player::{Player, ALL};
 use super::soft::{any_points, any_scale, any_symbol};
-use crate::inputs::{pick, Random, Size};
+use crate::inputs::{pick, times, Random, Size};
 
 pub struct Kind {
     pub name: &'static str,
@@ -33,14 +33,6 @@ const LOW_FIGURE: i64 = -(1 << 33);
 const TOP_FIGURE: i64 = (1 << 33) + (1 << 31);
 const TOP_SCALE: i64 = 1 << 24;
 const BEST: i64 = 1 << 33;
-
-fn times(size: Size, [sample, short, full]: [u64; 3]) -> u64 {
-    match size {
-        Size::Sample => sample,
-        Size::Short => short,
-        Size::Full => full,
-    }
-}
 
 /// Of a sample only one in so many.
 fn kept(size: Size, one_in: u64, r: &mut Random) -> bool {

@@ -4,7 +4,7 @@ use super::calls::{Call, Equaliser, Pairs, Sums};
 use super::desk::Said;
 use super::model::{no_sums, upper, GREATEST, LEAST, LIMIT, RULES, TURN};
 use super::player::Player;
-use crate::inputs::{pick, Random, Size};
+use crate::inputs::{pick, times, Random, Size};
 
 pub struct Kind {
     pub name: &'static str,
@@ -29,14 +29,6 @@ pub const KINDS: [Kind; 16] = [
     Kind { name: "systems handed in", play: systems },
     Kind { name: "close calls", play: close_calls },
 ];
-
-pub(crate) fn times(size: Size, sample: u64, short: u64, full: u64) -> std::ops::Range<u64> {
-    0..match size {
-        Size::Sample => sample,
-        Size::Short => short,
-        Size::Full => full,
-    }
-}
 
 // ---- numbers
 
@@ -145,7 +137,7 @@ fn push(p: &mut Player, y: [i16; 2]) -> Option<[i16; 2]> {
 
 /// Five symbols give nothing, the sixth gives the first: the identity's output is five late.
 fn first_symbols(p: &mut Player, r: &mut Random, size: Size) {
-    for turn in times(size, 2, 400, 20_000) {
+    for turn in 0..times(size, [2, 400, 20_000]) {
         p.refused(if turn % 2 == 0 { Call::New } else { Call::Restart }, 0);
         if turn % 2 == 0 {
             assert_eq!((p.state().taps, p.state().from), (RULES.identity(), None));
@@ -178,7 +170,7 @@ fn rounding(p: &mut Player, _: &mut Random, size: Size) {
 /// All parts at the ends of i16: the greatest sums that there are.
 fn extremes(p: &mut Player, r: &mut Random, size: Size) {
     p.refused(Call::New, 0);
-    for _ in times(size, 2, 3_000, 100_000) {
+    for _ in 0..times(size, [2, 3_000, 100_000]) {
         let ends = [-32_768, 32_767];
         let one = pick(r, &ends);
         let all_one = r.below(2) == 0;
@@ -198,7 +190,7 @@ fn extremes(p: &mut Player, r: &mut Random, size: Size) {
 }
 
 fn outputs(p: &mut Player, r: &mut Random, size: Size) {
-    for _ in times(size, 2, 12_000, 300_000) {
+    for _ in 0..times(size, [2, 12_000, 300_000]) {
         let taps = any_taps(r);
         p.refused(Call::Load { frame: any_frame(r), taps }, 0);
         let small = r.below(3) == 0;
@@ -216,7 +208,7 @@ fn outputs(p: &mut Player, r: &mut Random, size: Size) {
 
 /// A training counts from the eleventh symbol on.
 fn short_lines(p: &mut Player, r: &mut Random, size: Size) {
-    for _ in times(size, 1, 400, 20_000) {
+    for _ in 0..times(size, [1, 400, 20_000]) {
         p.refused(Call::Restart, 0);
         p.refused(Call::Train { d: any_symbol(r) }, 0);
         assert!(!p.state().opened);
@@ -239,7 +231,7 @@ fn short_lines(p: &mut Player, r: &mut Random, size: Size) {
 }
 
 fn trainings(p: &mut Player, r: &mut Random, size: Size) {
-    for _ in times(size, 1, 15_000, 350_000) {
+    for _ in 0..times(size, [1, 15_000, 350_000]) {
         if r.below(3) == 0 {
             p.refused(Call::Open { frame: any_frame(r) }, 0);
         }
@@ -266,7 +258,7 @@ fn trainings(p: &mut Player, r: &mut Random, size: Size) {
 
 fn at_random(p: &mut Player, r: &mut Random, size: Size) {
     p.refused(Call::New, 0);
-    for _ in times(size, 40, 1_000_000, 25_000_000) {
+    for _ in 0..times(size, [40, 1_000_000, 25_000_000]) {
         let call = match r.below(16) {
             0 => any_call(r),
             1..=3 => Call::Train { d: any_symbol(r) },
@@ -297,7 +289,7 @@ fn all_calls(p: &mut Player, r: &mut Random, e: &Equaliser, refusal: u8) {
 
 /// Each number at its limits and past them, in sums that are open and in sums that are not.
 fn limits(p: &mut Player, r: &mut Random, size: Size) {
-    for _ in times(size, 1, 2, 60) {
+    for _ in 0..times(size, [1, 2, 60]) {
         let base = any_state(r);
         let open = |sums| Equaliser { opened: true, sums, ..base };
         for (filled, refusal) in [(0, 0), (5, 0), (6, 0), (10, 0), (11, 0), (12, 6), (1 << 31, 6), (u32::MAX, 6)] {
@@ -331,7 +323,7 @@ fn limits(p: &mut Player, r: &mut Random, size: Size) {
 
 /// The last training that is counted, and the first that is not.
 fn counts(p: &mut Player, r: &mut Random, size: Size) {
-    for _ in times(size, 1, 300, 10_000) {
+    for _ in 0..times(size, [1, 300, 10_000]) {
         let mut e = Equaliser { filled: 11, opened: true, ..any_state(r) };
         e.sums = Sums { count: LIMIT - 2, ..Sums { r: [0; 132], p: [0; 22], ..any_sums(r) } };
         p.hand_in(&e);
@@ -351,7 +343,7 @@ fn counts(p: &mut Player, r: &mut Random, size: Size) {
 }
 
 fn states_handed_in(p: &mut Player, r: &mut Random, size: Size) {
-    for _ in times(size, 3, 50_000, 1_500_000) {
+    for _ in 0..times(size, [3, 50_000, 1_500_000]) {
         let mut e = any_state(r);
         // one in three with a number that may be anything
         if r.below(3) == 0 {
@@ -371,7 +363,7 @@ fn states_handed_in(p: &mut Player, r: &mut Random, size: Size) {
 }
 
 fn unknown(p: &mut Player, r: &mut Random, size: Size) {
-    for _ in times(size, 3, 1_000, 20_000) {
+    for _ in 0..times(size, [3, 1_000, 20_000]) {
         let mut call = [0; 24].map(|_: u64| r.next());
         call[0] = 16 + (r.positive(62) as u64);
         p.unknown(call);
@@ -402,7 +394,7 @@ fn solver_refusals(p: &mut Player, r: &mut Random, size: Size) {
         let singular = Sums { count, ..no_sums(5) };
         assert_eq!(solve(p, &singular), if refusal == 0 { 10 } else { refusal });
     }
-    for _ in times(size, 1, 3, 100) {
+    for _ in 0..times(size, [1, 3, 100]) {
         let base = Sums { count: 1 + r.below(u64::from(LIMIT)) as u32, ..any_sums(r) };
         for k in 0..154 {
             for value in [GREATEST, -GREATEST, GREATEST + 1, -GREATEST - 1, i64::MIN, i64::MAX] {
@@ -422,7 +414,7 @@ fn solver_refusals(p: &mut Player, r: &mut Random, size: Size) {
 
 /// Diagonal systems, whose taps are exact: whole numbers, halves, and those next to the ends of i16.
 fn rounded_taps(p: &mut Player, r: &mut Random, size: Size) {
-    for _ in times(size, 2, 3_000, 100_000) {
+    for _ in 0..times(size, [2, 3_000, 100_000]) {
         let unit = 1 << r.below(4);
         let mut s = Sums { count: 1, ..no_sums(0) };
         for ((row, column), at) in upper().zip(s.r.chunks_mut(2)) {
@@ -443,7 +435,7 @@ fn rounded_taps(p: &mut Player, r: &mut Random, size: Size) {
 
 /// A channel of a few echoes; the reference is the symbol five before the newest.
 fn solved_trainings(p: &mut Player, r: &mut Random, size: Size) {
-    for _ in times(size, 2, 8_000, 120_000) {
+    for _ in 0..times(size, [2, 8_000, 120_000]) {
         p.refused(Call::Restart, 0);
         p.refused(Call::Open { frame: any_frame(r) }, 0);
         let echoes: Vec<(i64, i64)> = (0..4).map(|_| (r.below(401) - 200, r.below(401) - 200)).collect();
@@ -556,14 +548,14 @@ fn close_call(r: &mut Random) -> Sums {
 }
 
 fn systems(p: &mut Player, r: &mut Random, size: Size) {
-    for _ in times(size, 7, 90_000, 2_000_000) {
+    for _ in 0..times(size, [7, 90_000, 2_000_000]) {
         let s = any_system(r);
         solve(p, &s);
     }
 }
 
 fn close_calls(p: &mut Player, r: &mut Random, size: Size) {
-    for _ in times(size, 1, 10_000, 250_000) {
+    for _ in 0..times(size, [1, 10_000, 250_000]) {
         let s = close_call(r);
         solve(p, &s);
     }

@@ -5,9 +5,9 @@ use super::model::{LATE, RULES, TOP, WIDE};
 use super::player::{Player, FRAME};
 use super::PLACES;
 use crate::eq::calls::Call as EqCall;
-use crate::eq::kinds::{any_frame, any_state, any_symbol, any_taps, times};
+use crate::eq::kinds::{any_frame, any_state, any_symbol, any_taps};
 use crate::eq::model::LIMIT;
-use crate::inputs::{pick, Random, Size};
+use crate::inputs::{pick, times, Random, Size};
 use crate::phase::calls::{Corrected, Word};
 use std::ops::Range;
 
@@ -97,7 +97,7 @@ fn push_on(p: &mut Player, r: &mut Random, n: u64) {
 
 /// From a start on: what comes out, and when. A restart in between, before and behind the sixth symbol.
 fn first_symbols(p: &mut Player, r: &mut Random, size: Size) {
-    for turn in times(size, 4, 2_000, 60_000) {
+    for turn in 0..times(size, [4, 2_000, 60_000]) {
         start(p, r);
         let from = any_position(r);
         if turn % 2 == 0 {
@@ -124,7 +124,7 @@ fn first_symbols(p: &mut Player, r: &mut Random, size: Size) {
 /// Short stretches with a frame open in the Rust, which a gap drops: a position too far, the last again, a lower one. Behind
 /// each the head of a frame, so that the Rust has one to drop.
 fn gaps(p: &mut Player, r: &mut Random, size: Size) {
-    for turn in times(size, 16, 3_000, 100_000) {
+    for turn in 0..times(size, [16, 3_000, 100_000]) {
         if turn % 16 == 0 {
             p.beside(any_words(r), false);
         }
@@ -177,7 +177,7 @@ fn words(p: &mut Player, r: &mut Random, size: Size) {
 
 /// Slot index, gain and position at their limits and past them, and which refusal comes first.
 fn limits(p: &mut Player, r: &mut Random, size: Size) {
-    for _ in times(size, 2, 200, 5_000) {
+    for _ in 0..times(size, [2, 200, 5_000]) {
         start(p, r);
         p.refused(Call::Eq(EqCall::Open { frame: 1 }), 0);
         let on = r.below(14) as u64;
@@ -216,7 +216,7 @@ fn counted(p: &mut Player, r: &mut Random, symbols: i64, count: u32, opened: boo
 /// A full count is refused where a training would be added, and only there: an aligned sync symbol, sums open, eleven in the
 /// line, no gap.
 fn counts(p: &mut Player, r: &mut Random, size: Size) {
-    for turn in times(size, 10, 400, 10_000) {
+    for turn in 0..times(size, [10, 400, 10_000]) {
         let symbols = if turn % 5 == 3 { 6 + r.below(4) } else { 10 + r.below(6) };
         counted(p, r, symbols, if turn % 5 == 4 { LIMIT - 1 } else { LIMIT }, turn % 5 != 1);
         let c = any_corrected(r, next_at(p));
@@ -266,7 +266,7 @@ fn hand_in(p: &mut Player, r: &mut Random) {
 /// Any state in range, and then one number out of it: a state refused comes back as it is. Among them five that wait before a
 /// line too short for an output, which gives the newest symbol's y.
 fn states_handed_in(p: &mut Player, r: &mut Random, size: Size) {
-    for turn in times(size, 24, 6_000, 150_000) {
+    for turn in 0..times(size, [24, 6_000, 150_000]) {
         start(p, r);
         hand_in(p, r);
         assert!(RULES.in_range(p.eq(), &p.desk().line));
@@ -321,7 +321,7 @@ fn out_of_range(p: &mut Player, r: &mut Random, turn: u64) {
 /// Pushes, mostly one after the other, with calls of both kinds between: a restart of the field `eq` alone among them.
 fn at_random(p: &mut Player, r: &mut Random, size: Size) {
     start(p, r);
-    for _ in times(size, 250, 400_000, 12_000_000) {
+    for _ in 0..times(size, [250, 400_000, 12_000_000]) {
         let at = match r.below(40) {
             0 => any_position(r),
             1 => p.desk().line.last.unwrap_or(9),
@@ -343,7 +343,7 @@ fn at_random(p: &mut Player, r: &mut Random, size: Size) {
 }
 
 fn unknown(p: &mut Player, r: &mut Random, size: Size) {
-    for turn in times(size, 8, 400, 4_000) {
+    for turn in 0..times(size, [8, 400, 4_000]) {
         if turn % 4 == 0 {
             start(p, r);
             let on = r.below(14) as u64;
@@ -394,7 +394,7 @@ fn gap(p: &mut Player, r: &mut Random, frame: u32) {
 
 /// A whole frame behind a start or a gap, without a layout; one with it, in which sums are compared too; a part of a third.
 fn frames(p: &mut Player, r: &mut Random, size: Size) {
-    for turn in times(size, 0, 1, 12) {
+    for turn in 0..times(size, [0, 1, 12]) {
         p.beside(any_words(r), false);
         p.refused(Call::Eq(EqCall::Load { frame: 1, taps: any_taps(r) }), 0);
         let frame = r.below(1 << 20) as u32;
@@ -414,7 +414,7 @@ fn frames(p: &mut Player, r: &mut Random, size: Size) {
 
 /// The Rust solves the sums and loads the taps two frames later; the port is given them then.
 fn solved_frames(p: &mut Player, r: &mut Random, size: Size) {
-    for _ in times(size, 0, 0, 2) {
+    for _ in 0..times(size, [0, 0, 2]) {
         p.beside(any_words(r), true);
         for frame in 0..7 {
             part_of_frame(p, r, 0..FRAME, frame, frame % 2 == 0);

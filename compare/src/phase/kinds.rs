@@ -3,7 +3,7 @@
 use super::calls::{Call, Head, Held, Nco, Steps, Whole, Word};
 use super::model::{END, SLOT};
 use super::player::{ssync, Carrier, Player, Slots, ENTRIES, PLACES};
-use crate::inputs::{by_powers, cosine_table, pick, Random, Size};
+use crate::inputs::{by_powers, cosine_table, pick, times, Random, Size};
 
 pub struct Kind {
     pub name: &'static str,
@@ -37,14 +37,6 @@ const SUM: (i64, i64) = (-126_701_535_232, 126_701_535_173);
 const DELTA: (i64, i64) = (-15_139_574_784, 15_139_574_777);
 const GAIN: i64 = 71_179_699;
 const GAMMA: i64 = 501_810_748;
-
-fn times(size: Size, sample: u64, short: u64, full: u64) -> std::ops::Range<u64> {
-    0..match size {
-        Size::Sample => sample,
-        Size::Short => short,
-        Size::Full => full,
-    }
-}
 
 // ---- numbers
 
@@ -200,7 +192,7 @@ fn gains(p: &mut Player, r: &mut Random, size: Size) {
     for amp in low.chain(high).chain([i64::MIN, i64::MAX]) {
         p.gain_of(amp);
     }
-    for _ in times(size, 30, 600_000, 20_000_000) {
+    for _ in 0..times(size, [30, 600_000, 20_000_000]) {
         // about where the gain changes
         let gain = 1 + r.positive(26);
         let turn = 2 * 4_555_500_750 / (2 * gain - 1) + r.near();
@@ -213,7 +205,7 @@ fn gains(p: &mut Player, r: &mut Random, size: Size) {
 /// Ssync heads, each so much further, with others between them.
 fn settings(p: &mut Player, r: &mut Random, size: Size) {
     p.set_table(&cosine_table());
-    for _ in times(size, 0, 4_000, 120_000) {
+    for _ in 0..times(size, [0, 4_000, 120_000]) {
         let freq = any_freq(r);
         let mut carrier = Carrier::new(p, freq);
         let (steady, turn) = (r.below(3) != 0, any_turn(r));
@@ -237,7 +229,7 @@ fn settings(p: &mut Player, r: &mut Random, size: Size) {
 }
 
 fn carriers_handed_in(p: &mut Player, r: &mut Random, size: Size) {
-    for turn in times(size, 40, 250_000, 10_000_000) {
+    for turn in 0..times(size, [40, 250_000, 10_000_000]) {
         if turn % 10_000 == 0 {
             p.set_table(&any_table(r));
         }
@@ -256,7 +248,7 @@ fn carriers_handed_in(p: &mut Player, r: &mut Random, size: Size) {
 
 fn carrier_refusals(p: &mut Player, r: &mut Random, size: Size) {
     p.set_table(&any_table(r));
-    for _ in times(size, 1, 200, 2_000) {
+    for _ in 0..times(size, [1, 200, 2_000]) {
         let trail = |steps, sum| Some(Steps { last: 5, sum, steps });
         let right = [None, trail(0, 0), trail(59, SUM.0), trail(59, SUM.1), trail(0, SUM.0)];
         let wrong = [
@@ -288,11 +280,11 @@ fn carrier_refusals(p: &mut Player, r: &mut Random, size: Size) {
 }
 
 fn rotations(p: &mut Player, r: &mut Random, size: Size) {
-    for _ in times(size, 3, 600, 20_000) {
+    for _ in 0..times(size, [3, 600, 20_000]) {
         p.set_table(&any_table(r));
         let freq = any_freq(r);
         let mut carrier = Carrier::new(p, freq);
-        for _ in times(size, 12, 2_000, 2_000) {
+        for _ in 0..times(size, [12, 2_000, 2_000]) {
             let x = any_input(r);
             assert_eq!(carrier.rotate(p, x), 0);
             if r.below(50) == 0 {
@@ -305,7 +297,7 @@ fn rotations(p: &mut Player, r: &mut Random, size: Size) {
 
 /// All of them at one phase, which stays.
 fn all_symbols(p: &mut Player, r: &mut Random, size: Size) {
-    for _ in times(size, 0, 40, 1_200) {
+    for _ in 0..times(size, [0, 40, 1_200]) {
         p.set_table(&any_table(r));
         let mut carrier = Carrier::handed_in(Nco { phase: any_angle(r), freq: 0, trail: None });
         for i in i8::MIN..=i8::MAX {
@@ -333,7 +325,7 @@ fn pushes(p: &mut Player, r: &mut Random, size: Size) {
         assert_eq!(idle.push(p, symbol), 0);
         p.digests();
     }
-    for _ in times(size, 12, 8_000, 200_000) {
+    for _ in 0..times(size, [12, 8_000, 200_000]) {
         let count = match r.below(3) {
             0 => pick(r, &[0, 1, 9_294, 9_295, 9_296]),
             _ => r.below(9_297) as u32,
@@ -368,7 +360,7 @@ fn pushes(p: &mut Player, r: &mut Random, size: Size) {
 
 /// Heads that come too early, restarts, and heads right after one another: nothing is due.
 fn short_slots(p: &mut Player, r: &mut Random, size: Size) {
-    for _ in times(size, 0, 4_000, 100_000) {
+    for _ in 0..times(size, [0, 4_000, 100_000]) {
         let mut slots = Slots::new(p);
         for _ in 0..1 + r.below(4) {
             for _ in 0..r.below(60) {
@@ -383,7 +375,7 @@ fn short_slots(p: &mut Player, r: &mut Random, size: Size) {
         }
     }
     for count in [0, 1, 2, 9_294, 9_295, 9_296] {
-        for _ in times(size, 2, 1_000, 20_000) {
+        for _ in 0..times(size, [2, 1_000, 20_000]) {
             let head = any_head(r);
             let mut slots = Slots::handed_in(Some(Held { head, count }));
             slots.head(p, next_head(&head, r));
@@ -411,7 +403,7 @@ fn short_slots(p: &mut Player, r: &mut Random, size: Size) {
 
 /// States that no calls leave, and heads that are not taken.
 fn phase_refusals(p: &mut Player, r: &mut Random, size: Size) {
-    for _ in times(size, 1, 200, 4_000) {
+    for _ in 0..times(size, [1, 200, 4_000]) {
         let head = any_head(r);
         let held = |at, amp, count| Some(Held { head: Head { at, amp, ..head }, count });
         let right = [None, held(0, 0, 0), held(0, WIDE, 9_295), held(5, -WIDE, 9_296), held(END - 9_297, 9, 9_296)];
@@ -447,7 +439,7 @@ fn phase_refusals(p: &mut Player, r: &mut Random, size: Size) {
 fn lengths(p: &mut Player, r: &mut Random, size: Size) {
     p.set_table(&any_table(r));
     let past = |head: &Head| Head { at: END, ..*head };
-    for _ in times(size, 3, 2_000, 40_000) {
+    for _ in 0..times(size, [3, 2_000, 40_000]) {
         let (head, j) = (any_head(r), r.below(9_296) as u64);
         let next = next_head(&head, r);
         let slot = Whole { head: Head { at: 0, ..head }, next, delta: 1, gain: 1, gamma: 1 };
@@ -497,7 +489,7 @@ fn positions(p: &mut Player, r: &mut Random, size: Size) {
         }
     }
     let steps = |head, next| Whole { head, next, delta: 77, gain: 5_000_000, gamma: -300 };
-    for _ in times(size, 40, 40_000, 1_000_000) {
+    for _ in 0..times(size, [40, 40_000, 1_000_000]) {
         let (mut head, next) = (any_head(r), Head { at: END - 1 - r.below(3) as u64, ..any_head(r) });
         let j = r.below(9_296) as u64;
         head.at = (END - j).wrapping_add_signed(r.near());
@@ -528,7 +520,7 @@ fn slots_handed_in(p: &mut Player, r: &mut Random, size: Size) {
         1 => r.signed(20).clamp(low, high),
         _ => low + r.below((high - low + 1) as u64),
     };
-    for turn in times(size, 320, 400_000, 16_000_000) {
+    for turn in 0..times(size, [320, 400_000, 16_000_000]) {
         if turn % 20_000 == 0 {
             p.set_table(&any_table(r));
         }
@@ -582,7 +574,7 @@ fn unknown(p: &mut Player, r: &mut Random, size: Size) {
 
 /// Two heads and a slot of symbols between them, of which the program sees some.
 fn parts_of_slots(p: &mut Player, r: &mut Random, size: Size) {
-    for turn in times(size, 4, 10_000, 400_000) {
+    for turn in 0..times(size, [4, 10_000, 400_000]) {
         if turn % 8 == 0 {
             p.set_table(&any_table(r));
         }
@@ -592,7 +584,7 @@ fn parts_of_slots(p: &mut Player, r: &mut Random, size: Size) {
         let head = Head { at: head.at % (END - 9_296), ..head };
         let mut slots = Slots::full(head, &symbols);
         let mut seen: Vec<u64> =
-            times(size, 6, 40, 40).map(|_| r.below(9_296) as u64).chain([0, 1, 9_294, 9_295]).collect();
+            (0..times(size, [6, 40, 40])).map(|_| r.below(9_296) as u64).chain([0, 1, 9_294, 9_295]).collect();
         seen.sort_unstable();
         seen.dedup();
         seen.iter().for_each(|&j| p.set_symbol(j, symbols[j as usize]));
@@ -603,7 +595,7 @@ fn parts_of_slots(p: &mut Player, r: &mut Random, size: Size) {
 
 /// Slot after slot, all of it through the program.
 fn whole_slots(p: &mut Player, r: &mut Random, size: Size) {
-    for _ in times(size, 0, 40, 1_000) {
+    for _ in 0..times(size, [0, 40, 1_000]) {
         p.set_table(&any_table(r));
         let mut slots = Slots::new(p);
         let mut head = any_head(r);
@@ -627,7 +619,7 @@ fn whole_slots(p: &mut Player, r: &mut Random, size: Size) {
 /// As a receiver does: each symbol is turned and pushed, each head goes to both.
 fn carrier_and_slots(p: &mut Player, r: &mut Random, size: Size) {
     p.set_table(&cosine_table());
-    for _ in times(size, 0, 20, 500) {
+    for _ in 0..times(size, [0, 20, 500]) {
         let freq = any_freq(r);
         let (mut carrier, mut slots) = (Carrier::new(p, freq), Slots::new(p));
         let mut head = Head { at: 46_480, amp: 40_000, ..any_head(r) };

@@ -1,7 +1,7 @@
 //! Altered states and wrong arguments: each number of docs/RANGES.md at the ends of its range and past them, then anything at any moment.
 
 use super::calls::{Call, PLAY, POINTS, RIGHT};
-use super::kinds::{any_call, any_signal, any_taps, load, times};
+use super::kinds::{any_call, any_signal, any_taps, load};
 use super::misfits::{any_receiver, places};
 use super::model::Receiver;
 use super::player::Player;
@@ -9,7 +9,7 @@ use super::ranges::END;
 use super::signal::SLOT;
 use crate::eq::calls::Sums;
 use crate::eq::model::{no_sums, DIAGONAL};
-use crate::inputs::{cosine_table, pick, Random, Size};
+use crate::inputs::{cosine_table, pick, times, Random, Size};
 use crate::phase::calls::{Corrected, Head, Held, Steps, Word};
 use crate::sync::model::{Lock, Reading, Stage};
 use crate::sync::streams::standard;

@@ -9,7 +9,7 @@ use super::signal::{points, Signal, SLOT};
 use crate::demap::soft::any_points;
 use crate::eq::calls::Call as EqCall;
 use crate::frame::calls::Ones;
-use crate::inputs::{cosine_table, pick, Random, Size};
+use crate::inputs::{cosine_table, pick, times, Random, Size};
 use crate::sync::calls::Event;
 use crate::sync::streams::standard;
 
@@ -34,15 +34,6 @@ pub const KINDS: [Kind; 13] = [
     Kind { name: "extreme symbols", play: extremes },
     Kind { name: "markers and their loss", play: markers },
 ];
-
-/// As many as the run's size asks for.
-pub(super) fn times(size: Size, [sample, short, full]: [u64; 3]) -> u64 {
-    match size {
-        Size::Sample => sample,
-        Size::Short => short,
-        Size::Full => full,
-    }
-}
 
 pub(super) fn random_word(r: &mut Random) -> Ones {
     std::array::from_fn(|_| if r.below(2) == 0 { 1 } else { -1 })

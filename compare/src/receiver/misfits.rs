@@ -1,7 +1,7 @@
 //! States whose numbers are all in range and do not fit together, and long enough streams from there on.
 
 use super::calls::Call;
-use super::kinds::{any_call, any_taps, random_word, times};
+use super::kinds::{any_call, any_taps, random_word};
 use super::model::{Points, Receiver};
 use super::player::{Player, Told};
 use super::ranges::{END, ENDS};
@@ -12,7 +12,7 @@ use crate::eq::kinds::any_state as any_equaliser;
 use crate::eq::model::LIMIT;
 use crate::frame::calls::Ones;
 use crate::frame::model::Line;
-use crate::inputs::{cosine_table, pick, Random, Size};
+use crate::inputs::{cosine_table, pick, times, Random, Size};
 use crate::phase::calls::{Corrected, Head, Held, Nco, Phase, Steps, Word};
 use crate::sync::model::{Lock, Reading, Stage, State};
 use crate::sync::streams::{any_state, between};
