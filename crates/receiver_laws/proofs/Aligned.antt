@@ -31,9 +31,8 @@ use Rattle.receiver_slot.specs.declared.Points.{Points}
 use Rattle.receiver_slot.specs.Slot.{alignedAll, alignedBy, correctedAll, runsOf, tapsFor, waitingBefore}
 use Rattle.receiver_slot.specs.Aligned.{runBy}
 use Rattle.receiver_slot.proofs.Aligned.{body-is, firsts-cons, joined-few, run-count, tail-is}
-use Rattle.receiver_laws.specs.Aligned.{BeginsWith, EqualisedAt, Filled, RunsAre}
-use Rattle.receiver_laws.specs.Softs.{In}
-use Rattle.receiver_laws.specs.Softs.In.{here, there}
+use Rattle.receiver_laws.specs.Aligned.{BeginsWith, EqualisedAt, Filled, In, RunsAre}
+use Rattle.receiver_laws.specs.Aligned.In.{here, there}
 use borrow.Author.Tests.{lt-ltb, ltb-false, ltb-true}
 use lib.Dec.{ltb}
 use lib.IntN.{ℤ}

@@ -37,6 +37,11 @@ pub record RunsAre (p : Points) (b : Back) (w : WholeSlot) (table store : List �
   pub body-j : r .body .j ≡ 0
 
 -- ---- with which taps
+-- one of the aligned symbols
+pub data In (a : AlignedSymbol) : List AlignedSymbol → Type 0 where
+  here : {rest : List AlignedSymbol} → In a (a ∷ rest)
+  there : {b : AlignedSymbol} {rest : List AlignedSymbol} → In a rest → In a (b ∷ rest)
+
 -- a line of eleven, which holds all that wait
 pub record Filled (b : Back) : Type 0 where
   pub eleven : length (b .eq .line) ≡ 22

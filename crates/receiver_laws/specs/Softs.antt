@@ -1,6 +1,6 @@
 -- What the soft bits of a call say of its aligned symbols.
-use Prim.Native.Nat.{ℕ, _-_, _^_, _≤_, _<_}
-use mathlib.Core.List.{List, _∷_}
+use Prim.Native.Nat.{ℕ, _+_, _-_, _^_, _≤_, _<_}
+use mathlib.Core.List.{List, _∷_, _++_}
 use mathlib.Core.Path.{_≡_}
 use lib.IntN.{ℤ, pos, natAbs}
 use lib.ListN.{getD, length}
@@ -23,19 +23,24 @@ pub record BitTrue (bits : ℕ) (points : List ℤ) (yi yq : ℤ) (j : ℕ) (v :
   pub positive : pos 0 <ℤ v → (l : ℕ) → Nearest yi yq points (2 ^ bits) l → bitOf (bits - 1 - j) l ≡ 0
   pub negative : v <ℤ pos 0 → (l : ℕ) → Nearest yi yq points (2 ^ bits) l → bitOf (bits - 1 - j) l ≡ 1
 
-pub data In (a : AlignedSymbol) : List AlignedSymbol → Type 0 where
-  here : {rest : List AlignedSymbol} → In a (a ∷ rest)
-  there : {b : AlignedSymbol} {rest : List AlignedSymbol} → In a rest → In a (b ∷ rest)
+-- value i of a call's soft values is that of the bit at this place, most significant first, of this main symbol among the aligned ones: it stands behind the
+-- values of all symbols before
+pub record ValueOf (p : Points) (given : List AlignedSymbol) (a : AlignedSymbol) (place i : ℕ) : Type 0 where
+  pub before : List AlignedSymbol
+  pub after : List AlignedSymbol
+  pub in-turn : given ≡ before ++ (a ∷ after)
+  pub main : ℕ
+  pub is-main : partOf (a .meta .j) ≡ Main main
+  pub below : place < pointsFor p (a .meta) .bits
+  pub index : i ≡ length (softAll p before) + place
 
--- value i of a call's soft values is a bit of a main symbol among its aligned ones, and true
+-- value i is one of a main symbol's, and true of the very bit that it is the value of
 pub record SoftTrue (p : Points) (given : List AlignedSymbol) (i : ℕ) : Type 0 where
   pub of : AlignedSymbol
-  pub among : In of given
-  pub main : ℕ
-  pub is-main : partOf (of .meta .j) ≡ Main main
   pub place : ℕ
-  pub below : place < pointsFor p (of .meta) .bits
-  pub true-of : BitTrue (pointsFor p (of .meta) .bits) (pointsFor p (of .meta) .points) (of .z .i) (of .z .q) place (getD (softAll p given) i (pos 0))
+  pub value-of : ValueOf p given of place i
+  pub true-of : (a : AlignedSymbol) (j : ℕ) → ValueOf p given a j i →
+      BitTrue (pointsFor p (a .meta) .bits) (pointsFor p (a .meta) .points) (a .z .i) (a .z .q) j (getD (softAll p given) i (pos 0))
 
 -- ---- the soft values of a slot fit the buffer of 44,880
 abbrev pub FitClaim : Type 0
