@@ -15,6 +15,7 @@ pub mod Loads
 pub mod Lists
 pub mod Causes
 pub mod Losses
+pub mod Early
 pub mod Quiet
 pub mod Locks
 pub mod Outs

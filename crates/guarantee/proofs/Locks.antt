@@ -1,5 +1,6 @@
 -- The lock, as the receiver has it and as a period's end tells it; relocking. Assumes nothing.
-use Prim.Native.Nat.{ℕ, suc, _+_, _-_, _*_, _≤_}
+use Prim.Native.Nat.{ℕ, suc, _+_, _-_, _*_, _≤_, _<_}
+use Rattle.guarantee.proofs.Early.{lost-locked}
 use Rattle.guarantee.proofs.Lists.{call-steps}
 use Rattle.guarantee.proofs.Stretch.{grown-length, kept-before}
 use Rattle.guarantee.proofs.Tied.{Tied, not-lost}
@@ -7,15 +8,15 @@ use Rattle.guarantee.specs.Calls.{Call, CallFits, System, afterCall, tol
 use Rattle.guarantee.specs.Calls.{symbol, points, taps, opens, ends, restarts}
 use Rattle.guarantee.specs.Demand.{Among, IsPeriod, LockTold, Relocks, stretchWith}
 use Rattle.guarantee.specs.Demand.{in-first, in-second, in-third}
-use Rattle.guarantee.specs.History.{History, accepts, beginsWith, endsStretch, eventsIn, eventsWith, goesOn, happens, keptOver, losesBy, losesWith, nextIn, pushOf, refusalIn, takes, withSymbol}
-use Rattle.laws.proofs.Tests.{by-test, if-both, never}
+use Rattle.guarantee.specs.History.{History, accepts, beginsWith, endsStretch, eventsIn, eventsWith, goesOn, happens, keptIn, keptOver, losesBy, losesWith, nextIn, pushOf, refusalIn, takes, withSymbol}
+use Rattle.laws.proofs.Tests.{and-both, by-test, if-both, never}
 use Rattle.laws.specs.Choice.{if-no, if-yes, if_then_else_}
 use Rattle.sync_heads.specs.declared.Headed.{Headed}
 use Rattle.sync_heads.specs.declared.Headed.the-variants.{Nothing as NoHead, One as OneHead}
 use Rattle.sync_heads.specs.declared.Record.{Record}
 use Rattle.sync_heads.specs.declared.Taken.{Taken}
 use Rattle.receiver.specs.Symbol.{Input}
-use Rattle.sync_history.proofs.Theorems.{lock-theorem}
+use Rattle.sync_history.proofs.Theorems.{lock-theorem, no-lock-before}
 use Rattle.sync_history.specs.History.{LockBy, LockIn, LockOn, Premise, endOf}
 use Rattle.sync_lock.specs.declared.Lock.{Lock}
 use Rattle.sync_step.specs.declared.Event.{Event}
@@ -40,7 +41,7 @@ use lib.Dec.{eqb, lit≤, ltb}
 use lib.IntN.{ℤ}
 use lib.ListN.{length}
 use mathlib.Core.Bool.{false, true}
-use mathlib.Core.List.{List}
+use mathlib.Core.List.{List, []}
 use mathlib.Core.Logic.{_⊎_, inl, inr}
 use mathlib.Core.Path.{_∙_, _≡_, ap, refl, subst, sym}
 use native.Mathlib.Omega.{arith}
@@ -71,6 +72,23 @@ in-stretch h (taps ts frame) e = if-both (λ (g : History). InStretch h g (h .pu
 in-stretch h (opens frame) e = if-both (λ (g : History). InStretch h g (h .pushes)) (eqb (refusalIn h (opens frame)) 0) _ h (record { base = refl; last = refl; is = refl }) (same h)
 in-stretch h ends e = if-both (λ (g : History). InStretch h g (h .pushes)) (eqb (refusalIn h ends) 0) _ h (record { base = refl; last = refl; is = refl }) (same h)
 in-stretch h (restarts at a) e = rw (if-no (eqb (refusalIn h (restarts at a)) 0) _ h e) (same h)
+
+-- .. and one that does: it begins anew
+anew : (h : History) (x : Input) → losesWith h x ≡ true → takes h x .pushes ≡ []
+unfolding takes beginsWith
+anew h x e = ap (λ (g : History). g .pushes) (if-yes (losesWith h x) (beginsWith (nextIn h + 1) (keptOver h x)) (goesOn h x) e)
+
+pub begun-none : (h : History) (c : Call) → endsStretch h c ≡ true → happens h c .pushes ≡ []
+unfolding endsStretch losesBy happens accepts
+begun-none h (symbol x a b soft) e =
+    let q = eqb (refusalIn h (symbol x a b soft)) 0 in
+    let w = and-both q (losesWith h x) e in
+    ap (λ (g : History). g .pushes) (if-yes q (takes h x) h (w .0)) ∙ anew h x (w .1)
+begun-none h (points bits ps k) e = absurd (never (sym e))
+begun-none h (taps ts frame) e = absurd (never (sym e))
+begun-none h (opens frame) e = absurd (never (sym e))
+begun-none h ends e = absurd (never (sym e))
+begun-none h (restarts at a) e = unfold beginsWith in ap (λ (g : History). g .pushes) (if-yes (eqb (refusalIn h (restarts at a)) 0) (beginsWith at (keptIn h)) h e)
 
 -- ---- the lock of a receiver that stands as a history says
 abbrev lockOf : System → Lock
@@ -236,13 +254,42 @@ module _ (s : System) (h : History) (t : Tied s h) where
   period-by ends f e q w = absurd (no-period q w)
   period-by (restarts at a) f e q w = absurd (no-period q w)
 
+  lock-is : (c : Call) → CallFits c → endsStretch h c ≡ false → LockIs (stretchWith h c) (lockOf (afterCall s c))
+  lock-is c f e = subst (λ (ps : List Push). LockIs ps (lockOf (afterCall s c))) (in-stretch h c e .is) (tied-lock (afterCall s c) (happens h c) (call-steps s h c t f .tied))
+
   pub lock-now-told : (c : Call) → CallFits c → (rest : List Call) → LockTold h s c (toldBy s c) rest
   lock-now-told c f rest =
       let k = call-steps s h c t f in
-      record { locked = λ e. is e .locked; locked-only = λ e. is e .locked-only; period = λ e q w. period-by c f e q (subst (Among (IsPeriod q)) (k .events) w) }
-    where
-      is : endsStretch h c ≡ false → LockIs (stretchWith h c) (lockOf (afterCall s c))
-      is e = subst (λ (ps : List Push). LockIs ps (lockOf (afterCall s c))) (in-stretch h c e .is) (tied-lock (afterCall s c) (happens h c) (call-steps s h c t f .tied))
+      record { locked = λ e. lock-is c f e .locked; locked-only = λ e. lock-is c f e .locked-only; period = λ e q w. period-by c f e q (subst (Among (IsPeriod q)) (k .events) w) }
+
+  -- ---- the 37,207th symbol of a stretch
+  -- the stretch that runs after a call has no more symbols than the call's
+  runs-on : (c : Call) → length (happens h c .pushes) ≤ length (stretchWith h c)
+  runs-on c = by-test (endsStretch h c) (λ e. subst (λ (ps : List Push). length ps ≤ length (stretchWith h c)) (sym (begun-none h c e)) (omega arith)) (λ e. rw (in-stretch h c e .is) (omega arith))
+
+  none-before : (c : Call) → CallFits c → length (stretchWith h c) < 37207 → isLocked (lockOf (afterCall s c)) ≡ false
+  none-before c f l =
+      let g = happens h c in
+      let k = tied-lock (afterCall s c) g (call-steps s h c t f .tied) in
+      by-test (isLocked (lockOf (afterCall s c)))
+      (λ e. absurd (no-lock-before (sizeAt (g .pushes)) (offsetOf (lockOf (afterCall s c))) (length (g .pushes)) (omega (arith, l, runs-on c)) (k .locked-only e)))
+      (λ e. e)
+
+  -- the 37,207th itself does not lose, since nothing loses before a lock
+  no-loss : (c : Call) → length (h .pushes) ≡ 37206 → losesBy h c ≡ false
+  no-loss c n =
+      by-test (losesBy h c)
+      (λ e. let w = lost-locked s h t c e in absurd (no-lock-before (sizeAt (stretchWith h c)) (w .0) (length (h .pushes)) (omega (arith, n)) (w .1)))
+      (λ e. e)
+
+  goes-on : (c : Call) → length (h .pushes) ≡ 37206 → length (stretchWith h c) ≡ 37207 → endsStretch h c ≡ false
+  unfolding endsStretch stretchWith
+  goes-on (symbol x a b soft) n k = no-loss (symbol x a b soft) n
+  goes-on (points bits ps q) n k = refl
+  goes-on (taps ts frame) n k = refl
+  goes-on (opens frame) n k = refl
+  goes-on ends n k = refl
+  goes-on (restarts at a) n k = absurd (omega (arith, n, k))
 
   -- ---- under the premise
   lock-in : (place : ℕ) (ps : List Push) → LockOn 9296 (sizeAt ps) place 37207 → LockIn 9296 (sizeAt ps) place 3
@@ -298,6 +345,8 @@ module _ (s : System) (h : History) (t : Tied s h) where
       let w = lock-theorem place P Q (sizeAt (stretchWith h c)) (length (stretchWith h c)) pr in
       record {
         falls = w .falls;
+        locked = λ n k. lock-is c f (goes-on c n k) .locked place (record { on = 37207; by = omega (arith, k); falls = w .falls (omega (arith, k)) });
+        not-before = none-before c f;
         lasts = w .lasts;
         heads =
             λ e n j k.

@@ -1,5 +1,6 @@
 -- No soft bit before lock, and none of a refused symbol. Assumes nothing.
 use Prim.Native.Nat.{ℕ, _-_, _≤_}
+use Rattle.guarantee.proofs.Early.{lost-locked}
 use Rattle.guarantee.proofs.Follow.{answer-is, lent-is, own-wrong, says-1, wrong-any}
 use Rattle.guarantee.proofs.Lists.{call-steps}
 use Rattle.guarantee.proofs.Refusals.{own-refusal}
@@ -152,5 +153,6 @@ module _ (s : System) (h : History) (t : Tied s h) where
       record {
         heads = λ e. head-by c (sym (ap anyHead (call-steps s h c t f .events)) ∙ e);
         soft = soft-by c f;
+        losses = lost-locked s h t c;
         few = λ l p. no-lock-before (sizeAt (stretchWith h c)) p (length (stretchWith h c)) l;
       }

@@ -1,9 +1,10 @@
 -- DEMAND 3: the claim of specs/Demand.antt. Assumes nothing.
-use Prim.Native.Nat.{ℕ}
+use Prim.Native.Nat.{ℕ, _-_}
 use Rattle.guarantee.proofs.Lists.{calls-tied, fit-before, new-tied}
 use Rattle.guarantee.proofs.Locks.{lock-now-told, relocks}
 use Rattle.guarantee.proofs.Losses.{answers, losses}
 use Rattle.guarantee.proofs.Outs.{slots-told}
+use Rattle.guarantee.proofs.Prefix.{premise-earlier}
 use Rattle.guarantee.proofs.Quiet.{before-lock, none-refused}
 use Rattle.guarantee.proofs.Softs as Bits
 use Rattle.guarantee.proofs.Tied.{Tied}
@@ -13,6 +14,8 @@ use Rattle.guarantee.specs.History.{History, beginsWith, happenAll}
 use Rattle.laws.specs.Choice.{if-yes}
 use Rattle.receiver.specs.Answers.{newAcc, newAnswer}
 use Rattle.receiver.specs.Started.{newKept, started}
+use Rattle.sync_history.specs.History.{Premise}
+use Rattle.sync_tie.specs.Pushes.{Push, sizeAt}
 use borrow.Author.Tests.{eq-eqb}
 use lib.Dec.{eqb}
 use lib.IntN.{ℤ}
@@ -30,6 +33,8 @@ call-claims s h t c f rest =
       lock = lock-now-told s h t c f rest;
       slots = slots-told s h t c f rest;
       relocks = relocks s h t c f rest;
+      earlier =
+          λ place P Q qs es e p. premise-earlier place P Q qs es (subst (λ (ps : List Push). Premise 9296 place P Q (sizeAt ps) (length ps - 23)) e p);
       soft-bits = Bits.soft-bits s h t c f rest;
       refused = none-refused s h t c f;
     }

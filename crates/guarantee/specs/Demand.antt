@@ -9,6 +9,7 @@ use lib.Dec.{eqb}
 use lib.IntN.{ℤ, pos}
 use lib.ListN.{length, getD, replicate}
 use Rattle.laws.specs.Choice.{if_then_else_}
+use Rattle.sync_lock.specs.declared.Lock.{Lock}
 use Rattle.sync_step.specs.declared.Event.{Event}
 use Rattle.sync_step.specs.declared.Event.the-variants.{Nothing, Head, Period, Lost}
 use Rattle.sync_step.specs.declared.Events.{Events}
@@ -112,23 +113,29 @@ module _ (h : History) (s : System) (c : Call) (t : Told) (rest : List Call) whe
   pub record BeforeLock : Type 0 where
     pub heads : anyHead (t .events) ≡ true → (p : ℕ) × LockBy 9296 (sizeAt ps) p m
     pub soft : ((p : ℕ) → ¬ LockBy 9296 (sizeAt ps) p m) → NoSoft c t
+    -- nor does a loss
+    pub losses : losesBy h c ≡ true → (p : ℕ) × LockBy 9296 (sizeAt ps) p m
     -- "A stretch of fewer than 37,207 has no lock"
     pub few : length ps < 37207 → (p : ℕ) → ¬ LockBy 9296 (sizeAt ps) p (length ps)
 
+  -- the receiver's lock after the call
+  abbrev lock-after : Lock
+  lock-after = afterCall s c .receiver .front .sync .run .lock
+
   -- "the receiver is locked after it and not before": as its own lock has it, and as a period's end tells; of a call that does not end the stretch
   pub record LockTold : Type 0 where
-    pub locked : endsStretch h c ≡ false → (p : ℕ) → LockBy 9296 (sizeAt ps) p (length ps) →
-        (isLocked (afterCall s c .receiver .front .sync .run .lock) ≡ true) × (offsetOf (afterCall s c .receiver .front .sync .run .lock) ≡ p)
-    pub locked-only : endsStretch h c ≡ false → isLocked (afterCall s c .receiver .front .sync .run .lock) ≡ true →
-        LockBy 9296 (sizeAt ps) (offsetOf (afterCall s c .receiver .front .sync .run .lock)) (length ps)
-    pub period : endsStretch h c ≡ false → (q : SyncStats) → Among (IsPeriod q) (t .events) →
-        (q .locked ≡ isLocked (afterCall s c .receiver .front .sync .run .lock)) × (q .offset ≡ offsetOf (afterCall s c .receiver .front .sync .run .lock))
+    pub locked : endsStretch h c ≡ false → (p : ℕ) → LockBy 9296 (sizeAt ps) p (length ps) → (isLocked lock-after ≡ true) × (offsetOf lock-after ≡ p)
+    pub locked-only : endsStretch h c ≡ false → isLocked lock-after ≡ true → LockBy 9296 (sizeAt ps) (offsetOf lock-after) (length ps)
+    pub period : endsStretch h c ≡ false → (q : SyncStats) → Among (IsPeriod q) (t .events) → (q .locked ≡ isLocked lock-after) × (q .offset ≡ offsetOf lock-after)
 
   -- "Whenever, in every period of 9,296 after the loss, the rotated symbols have correlation size at least P at one fixed position and at most Q at all
   -- others, P ≥ 4Q + 8"
   pub record Relocks (place : ℕ) : Type 0 where
     -- "lock is found exactly on the 37,207th accepted symbol after the loss"; `few` above: "and no earlier"
     pub falls : 37207 ≤ length ps → LockOn 9296 (sizeAt ps) place 37207
+    -- after the call of that symbol the receiver is locked at that position, after the 37,206th and all before it is not
+    pub locked : m ≡ 37206 → length ps ≡ 37207 → (isLocked lock-after ≡ true) × (offsetOf lock-after ≡ place)
+    pub not-before : length ps < 37207 → isLocked lock-after ≡ false
     -- the lock is not lost by periods
     pub lasts : (k : ℕ) → k ≤ length ps → ¬ LossBy 9296 (sizeAt ps) k
     -- "from the second later reading of that position on, every reading gives a head until the next loss or restart", of that very window. Readings
@@ -159,6 +166,9 @@ module _ (h : History) (s : System) (c : Call) (t : Told) (rest : List Call) whe
     pub lock : LockTold
     pub slots : SlotTold
     pub relocks : (place P Q : ℕ) → Premise 9296 place P Q (sizeAt ps) (length ps - 23) → Relocks place
+    -- a stretch that meets the premise has met it at each of its calls before
+    pub earlier : (place P Q : ℕ) (qs es : List Push) → ps ≡ qs ++ es → Premise 9296 place P Q (sizeAt ps) (length ps - 23) →
+        Premise 9296 place P Q (sizeAt qs) (length qs - 23)
     -- a refused symbol writes none
     pub soft-bits : (x : Input) (a : Accumulators) (b : SlotStore) (soft : List ℤ) → c ≡ symbol x a b soft → refusalIn h c ≡ 0 → SoftBits x (lentTo s a b soft)
     pub refused : (refusalIn h c ≡ 0 → ⊥) → NoSoft c t
