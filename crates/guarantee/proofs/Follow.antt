@@ -139,7 +139,7 @@ module _ (s : System) (h : History) (t : Tied s h) (x : Input) (a : Accumulators
   unfolding symbolAnswer if_then_else_
   wrong-answer = rw gives-1
 
-  wrong-lent : symbolLent (s .receiver) x lent ≡ lent
+  pub wrong-lent : symbolLent (s .receiver) x lent ≡ lent
   unfolding symbolLent if_then_else_
   wrong-lent = rw gives-1
 

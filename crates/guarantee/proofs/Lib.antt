@@ -19,6 +19,7 @@ pub mod Early
 pub mod Quiet
 pub mod Locks
 pub mod Outs
+pub mod Answers
 pub mod Softs
 pub mod Theorems
 pub mod Feeds

@@ -141,7 +141,7 @@ module _ (s : System) (h : History) (t : Tied s h) where
     where
       same-sums : (u : Training) → SumsTied u (r₀ .back .eq) → SumsTied u (loadedEq (r₀ .back .eq) ts frame)
       same-sums none k = k
-      same-sums (since m) k = k
+      same-sums (since frame m) k = k
 
   open-tied : (frame : ℕ) → Tied (record { receiver = withEq r₀ (withSums (r₀ .back .eq) true (emptySums frame)); acc = s .acc; store = s .store }) (accepts h (opens frame))
   unfolding withEq accepts withSums emptySums
@@ -153,7 +153,7 @@ module _ (s : System) (h : History) (t : Tied s h) where
         taps = t .taps;
         from = t .from;
         points = t .points;
-        sums = (refl, refl);
+        sums = (refl, refl, refl);
         slots = same-slots (withSums (r₀ .back .eq) true (emptySums frame)) refl;
         coherent = open-sums-coherent r₀ frame (t .coherent);
         short = t .short;

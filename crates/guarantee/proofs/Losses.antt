@@ -1,30 +1,27 @@
--- Answers and losses of a call. Assumes nothing.
+-- The losses of a call. Assumes nothing.
 use Prim.Native.Nat.{ℕ, _+_, _-_}
 use Rattle.guarantee.proofs.Alike.{Same, same-all}
 use Rattle.guarantee.proofs.Causes.{causes, eighth-lost}
 use Rattle.guarantee.proofs.Follow.{after-is, fits, own-wrong, wrong-any}
 use Rattle.guarantee.proofs.Lists.{call-steps}
-use Rattle.guarantee.proofs.Loads.{end-answer}
 use Rattle.guarantee.proofs.Lost.{Tells, lost-told, tells-loses}
 use Rattle.guarantee.proofs.Refusals.{own-refusal}
 use Rattle.guarantee.proofs.Taken.{lost-system, store-long}
-use Rattle.guarantee.proofs.Tied.{SumsTied, Tied, is-lost, late-test}
+use Rattle.guarantee.proofs.Tied.{Tied, is-lost, late-test}
 use Rattle.guarantee.specs.Calls.{Accumulators, Call, CallFits, InputFits, SlotStore, System, afterCall, begins, toldAll, toldBy}
 use Rattle.guarantee.specs.Calls.{symbol, points, taps, opens, ends, restarts, own, wrong}
-use Rattle.guarantee.specs.Demand.{Among, Answers, LostAt, Losses, keptAfter}
+use Rattle.guarantee.specs.Demand.{Among, LostAt, Losses, keptAfter}
 use Rattle.guarantee.specs.Demand.{in-first, in-second, in-third}
-use Rattle.guarantee.specs.History.{History, Training, countOf, endsWith, eventsIn, eventsWith, keptOver, losesBy, losesWith, nextIn, ownAcc, ownStore, refusalIn, withSymbol}
-use Rattle.guarantee.specs.History.{none, since}
+use Rattle.guarantee.specs.History.{History, eventsIn, eventsWith, keptOver, losesBy, losesWith, nextIn, ownAcc, ownStore, refusalIn, withSymbol}
 use Rattle.laws.proofs.Tests.{and-both, by-test, neither, never}
 use Rattle.laws.specs.Choice.{if-no, if-yes, if_then_else_}
 use Rattle.receiver.specs.declared.Kept.{Kept}
-use Rattle.receiver.specs.Answers.{endAnswer, symbolRefusal}
+use Rattle.receiver.specs.Answers.{symbolRefusal}
 use Rattle.receiver.specs.Heads.{isLost, losesIn}
 use Rattle.receiver.specs.Started.{started}
 use Rattle.receiver.specs.Symbol.{Input, Lent, storeAfter}
 use Rattle.receiver_laws.specs.Stores.{Agree}
 use Rattle.receiver_range.proofs.Theorems.{symbol-accepts}
-use Rattle.sums.specs.Sums.{emptySums}
 use Rattle.sync_step.specs.declared.Event.{Event}
 use Rattle.sync_step.specs.declared.Event.the-variants.{Nothing, Head, Period, Lost}
 use Rattle.sync_step.specs.declared.Events.{Events}
@@ -39,20 +36,6 @@ use mathlib.Core.Bool.{false, true, _&&_, _||_}
 use mathlib.Core.List.{List}
 use mathlib.Core.Path.{_∙_, _≡_, ap, refl, subst, sym}
 use native.Mathlib.Omega.{arith}
-
--- ---- ended sums
-module _ (s : System) (h : History) (t : Tied s h) where
-  ended-by : (u : Training) → SumsTied u (s .receiver .back .eq) → (endAnswer (s .receiver) .ended ≡ endsWith u) × (endAnswer (s .receiver) .sums .count ≡ countOf u)
-  unfolding endsWith countOf if_then_else_ emptySums
-  ended-by none o = rw (end-answer s h t, o) (refl, refl)
-  ended-by (since m) o = rw (end-answer s h t, o .0) (refl, o .1)
-
-  ended-told : (c : Call) → c ≡ ends → (toldBy s c .ended ≡ endsWith (h .sums)) × (toldBy s c .sums .count ≡ countOf (h .sums))
-  unfolding toldBy
-  ended-told c e = subst (λ (y : Call). (toldBy s y .ended ≡ endsWith (h .sums)) × (toldBy s y .sums .count ≡ countOf (h .sums))) (sym e) (ended-by (h .sums) (t .sums))
-
-  pub answers : (c : Call) → CallFits c → (rest : List Call) → Answers h s c (toldBy s c) rest
-  answers c f rest = let k = call-steps s h c t f in record { refusal = k .refusal; events = k .events; ended = ended-told c }
 
 -- ---- losses
 not-there : (at : ℕ) (e : Event) → isLost e ≡ false → LostAt at e → ⊥

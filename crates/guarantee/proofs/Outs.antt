@@ -8,24 +8,26 @@ use Rattle.guarantee.proofs.Lists.{call-steps}
 use Rattle.guarantee.proofs.Quiet.{no-head, no-slot-none, none-refused, one-not, quiet-none, refused-none}
 use Rattle.guarantee.proofs.Refusals.{own-refusal}
 use Rattle.guarantee.proofs.Slots.{Slots, first-due, later-due}
-use Rattle.guarantee.proofs.Tied.{Tied, events-are, head-locked, toldIn}
+use Rattle.guarantee.proofs.Tied.{Tied, events-are, head-locked, next-is, toldIn}
 use Rattle.guarantee.specs.Calls.{Accumulators, Call, CallFits, InputFits, SlotStore, System, Told, handedAcc, handedStore, lentTo, plain, toldBy}
 use Rattle.guarantee.specs.Calls.{symbol, points, taps, opens, ends, restarts, own, wrong}
 use Rattle.guarantee.specs.Demand.{NoSoft, SlotTold}
-use Rattle.guarantee.specs.History.{History, eventsIn, eventsWith, refusalIn}
+use Rattle.guarantee.specs.History.{History, eventsIn, eventsWith, refusalIn, runIn, runsIn, runsWith, slotAt}
 use Rattle.laws.proofs.Tests.{by-test, never}
 use Rattle.laws.specs.Choice.{if-no, if-yes, if_then_else_}
 use Rattle.phase.specs.declared.Due.the-variants.{Nothing as NoSlot, Slot}
 use Rattle.phase.specs.declared.WholeSlot.{WholeSlot}
-use Rattle.receiver.specs.Answers.{symbolRefusal}
-use Rattle.receiver.specs.Symbol.{Input, Lent, aligned, heads, runs, slot, synced}
+use Rattle.receiver.specs.Answers.{noRuns, symbolRefusal}
+use Rattle.receiver.specs.Symbol.{Input, Lent, aligned, heads, nextOf, runs, slot, synced}
 use Rattle.receiver.specs.declared.Answer.{Answer}
 use Rattle.receiver.specs.declared.Receiver.{Receiver}
 use Rattle.receiver_laws.proofs.Aligned.{runs-are}
 use Rattle.receiver_laws.specs.Aligned.{RunsAre}
 use Rattle.receiver_range.proofs.Symbols.{Due-is, due-is, slot-is}
 use Rattle.receiver_range.specs.Coherent.{Adjoins, CoherentReceiver, Untouched}
-use Rattle.receiver_slot.specs.declared.Runs.{Runs}
+use Rattle.receiver_slot.specs.Slot.{noRun, pointsFor}
+use Rattle.receiver_slot.specs.declared.AlignedRun.{AlignedRun}
+use Rattle.receiver_slot.specs.declared.Points.{Points}
 use Rattle.sync_step.specs.Events.{noEvents}
 use Rattle.sync_tie.specs.Claims.{anyHead}
 use borrow.Author.Tests.{eq-eqb, eqb-false, eqb-true, ne-eqb}
@@ -35,7 +37,7 @@ use lib.ListN.{length}
 use mathlib.Core.Bool.{false, true, not}
 use mathlib.Core.List.{List}
 use mathlib.Core.Logic.{_⊎_, inl, inr}
-use mathlib.Core.Path.{_∙_, _≡_, ap, refl, subst, sym}
+use mathlib.Core.Path.{_∙_, _≡_, ap, ap₂, refl, subst, sym}
 use native.Mathlib.Omega.{arith}
 
 -- a refused symbol tells no head
@@ -43,6 +45,10 @@ wrong-quiet : (h : History) (x : Input) (a : Accumulators) (b : SlotStore) (soft
 unfolding eventsIn
 wrong-quiet h x a b soft e =
     ap anyHead (if-no (eqb (refusalIn h (symbol x a b soft)) 0) (eventsWith h x) noEvents (ap (λ (n : ℕ). eqb n 0) e)) ∙ no-head
+
+-- a run by its numbers
+run-is : (u : AlignedRun) {a j n b : ℕ} → u .at ≡ a → u .j ≡ j → u .count ≡ n → u .bits ≡ b → u ≡ record { at = a; j = j; count = n; bits = b }
+run-is u p q r s = λ i. record { at = p i; j = q i; count = r i; bits = s i }
 
 -- a slot that adjoins, or the first, finds the alignment as it is
 no-gap-first : (b : Back) (at : ℕ) → Untouched b → joinedTo b at ≡ b
@@ -65,18 +71,38 @@ module _ (r : Receiver) (x : Input) (l : Lent) (c : CoherentReceiver r) (w : Who
   unfolding runs aligned
   outs = rw (slot-is r x l c w e) (runs-are (r .points) (r .back) w (x .table) (l .store) (x .f) (x .s) few)
 
+  -- from where
+  abbrev begins-at : Type 0
+  begins-at = w .head .at + 9296 + 23 ≡ nextOf r
+
+  body-run : begins-at → runs 9296 r x l .body ≡ record { at = nextOf r - 23 - 9296; j = 0; count = 9291; bits = r .points .bits }
+  unfolding pointsFor
+  body-run q = run-is _ (outs .body-at ∙ omega (arith, q)) (outs .body-j) (outs .body-count) (outs .body-begins .bits-are)
+
   -- those that waited
-  waited : (k : ℕ) → Slots k (r .front .phase) (r .back) → 1 ≤ k → joinedTo (r .back) (w .head .at) .metas .count ≡ (if eqb k 1 then 0 else 5)
+  first-run : Untouched (r .back) → runs 9296 r x l .tail ≡ noRun
+  first-run u = outs .tail-none (outs .tail-count ∙ ap (λ (b : Back). b .metas .count) (no-gap-first (r .back) (w .head .at) u) ∙ u .none)
+
+  next-run : begins-at → Adjoins (w .head .at) (r .back) → runs 9296 r x l .tail ≡ record { at = nextOf r - 23 - 9296 - 5; j = 9291; count = 5; bits = r .points .bits }
+  unfolding pointsFor
+  next-run q u =
+      let n : runs 9296 r x l .tail .count ≡ 5 = outs .tail-count ∙ ap (λ (b : Back). b .metas .count) (no-gap-next (r .back) (w .head .at) u) ∙ u .five in
+      let b = outs .tail-begins (omega (arith, n)) in
+      run-is _ (b .at-is ∙ omega (arith, q, u .first .at-is)) (b .j-is ∙ omega (arith, u .first .j)) n (b .bits-are)
+
+  tail-run : (k : ℕ) → Slots k (r .front .phase) (r .back) → 1 ≤ k → begins-at →
+      runs 9296 r x l .tail ≡ (if eqb k 1 then noRun else record { at = nextOf r - 23 - 9296 - 5; j = 9291; count = 5; bits = r .points .bits })
   unfolding if_then_else_
-  waited k s z = go (due-is r x l c w e .back)
+  tail-run k s z q = go (due-is r x l c w e .back)
     where
-      go : Untouched (r .back) ⊎ Adjoins (w .head .at) (r .back) → joinedTo (r .back) (w .head .at) .metas .count ≡ (if eqb k 1 then 0 else 5)
+      go : Untouched (r .back) ⊎ Adjoins (w .head .at) (r .back) →
+          runs 9296 r x l .tail ≡ (if eqb k 1 then noRun else record { at = nextOf r - 23 - 9296 - 5; j = 9291; count = 5; bits = r .points .bits })
       go (inl u) =
-          by-test (eqb k 1) (λ t. rw (no-gap-first (r .back) (w .head .at) u, t) (u .none))
+          by-test (eqb k 1) (λ t. rw t (first-run u))
           (λ t. absurd (omega (arith, s .full-line (omega (arith, z, eqb-false k 1 t)), u .empty)))
       go (inr u) =
           by-test (eqb k 1) (λ t. absurd (omega (arith, s .empty (omega (arith, eqb-true k 1 t)), u .full)))
-          (λ t. rw (no-gap-next (r .back) (w .head .at) u, t) (u .five))
+          (λ t. rw t (next-run q u))
 
 -- ---- a symbol with the receiver's own stores
 module _ (s : System) (h : History) (t : Tied s h) (x : Input) (soft : List ℤ) (f : InputFits x) where
@@ -90,13 +116,19 @@ module _ (s : System) (h : History) (t : Tied s h) (x : Input) (soft : List ℤ)
   unfolding toldBy lentTo handedAcc handedStore
   own-runs z = ap (λ (y : Answer). y .runs) (answer-is s h t x soft f z)
 
-  own-given : symbolRefusal r₀ x l₀ ≡ 0 → anyHead (synced 9296 r₀ x l₀ .events) ≡ true → 1 ≤ toldIn h →
-      (toldBy s (symbol x own own soft) .runs .tail .count ≡ (if eqb (toldIn h) 1 then 0 else 5)) × (toldBy s (symbol x own own soft) .runs .body .count ≡ 9291)
-  own-given z a k =
+  -- a later head of the stretch
+  later-runs : symbolRefusal r₀ x l₀ ≡ 0 → anyHead (synced 9296 r₀ x l₀ .events) ≡ true → 1 ≤ toldIn h → toldBy s (symbol x own own soft) .runs ≡ runsWith h
+  unfolding runsWith runIn slotAt
+  later-runs z a k =
       let d = later-due r₀ x l₀ (t .coherent) a (head-locked s h t x soft a) (t .slots .held k) in
-      let o = outs r₀ x l₀ (t .coherent) (d .0) (d .1) in
-      let e = own-runs z in
-      (ap (λ (y : Runs). y .tail .count) e ∙ o .tail-count ∙ waited r₀ x l₀ (t .coherent) (d .0) (d .1) (toldIn h) (t .slots) k, ap (λ (y : Runs). y .body .count) e ∙ o .body-count)
+      let p : Points = r₀ .points in
+      let b = body-run r₀ x l₀ (t .coherent) (d .0) (d .1) (d .2) in
+      let w = tail-run r₀ x l₀ (t .coherent) (d .0) (d .1) (toldIn h) (t .slots) k (d .2) in
+      let n = next-is s h t in
+      own-runs z
+      ∙ ap₂ (λ (u v : AlignedRun). record { tail = u; body = v }) w b
+      ∙ ap₂ (λ (i : ℕ) (q : Points). record { tail = if eqb (toldIn h) 1 then noRun else record { at = i - 23 - 9296 - 5; j = 9291; count = 5; bits = q .bits }; body = record { at = i - 23 - 9296; j = 0; count = 9291; bits = q .bits } }) n (t .points)
+      ∙ sym (if-no (eqb (toldIn h) 0) noRuns _ (ne-eqb (toldIn h) 0 (λ e. omega (arith, e, k))))
 
   -- nothing without a head, nor with the first of the stretch
   own-none : anyHead (eventsIn h (symbol x own own soft)) ≡ false → NoSoft (symbol x own own soft) (toldBy s (symbol x own own soft))
@@ -125,23 +157,22 @@ module _ (s : System) (h : History) (t : Tied s h) (x : Input) (soft : List ℤ)
 
 -- ---- every call
 module _ (s : System) (h : History) (t : Tied s h) where
-  given-by : (c : Call) → CallFits c → anyHead (eventsIn h c) ≡ true → 1 ≤ toldIn h → (toldBy s c .runs .tail .count ≡ (if eqb (toldIn h) 1 then 0 else 5)) × (toldBy s c .runs .body .count ≡ 9291)
+  head-runs : (c : Call) → CallFits c → anyHead (eventsIn h c) ≡ true → 1 ≤ toldIn h → toldBy s c .runs ≡ runsWith h
   unfolding eventsIn
-  given-by (symbol x own own soft) f a k =
+  head-runs (symbol x own own soft) f a k =
       let c = symbol x own own soft in
-      let l : Lent = record { acc = s .acc; store = s .store; soft = soft } in
       by-test (eqb (refusalIn h c) 0)
       (λ e.
-      own-given s h t x soft f (own-refusal s h t x soft ∙ eqb-true (refusalIn h c) 0 e)
+      later-runs s h t x soft f (own-refusal s h t x soft ∙ eqb-true (refusalIn h c) 0 e)
       (ap anyHead (events-are s h t x soft) ∙ sym (ap anyHead (if-yes (eqb (refusalIn h c) 0) (eventsWith h x) noEvents e)) ∙ a) k)
       (λ e. absurd (never (sym a ∙ ap anyHead (if-no (eqb (refusalIn h c) 0) (eventsWith h x) noEvents e) ∙ no-head)))
-  given-by (symbol x own (wrong sl d) soft) f a k = absurd (never (sym a ∙ wrong-quiet h x own (wrong sl d) soft (says-1 s h t x own (wrong sl d) soft (own-wrong sl d))))
-  given-by (symbol x (wrong al d) b soft) f a k = absurd (never (sym a ∙ wrong-quiet h x (wrong al d) b soft (says-1 s h t x (wrong al d) b soft (wrong-any al d b))))
-  given-by (points bits ps q) f a k = absurd (never (sym a ∙ no-head))
-  given-by (taps ts frame) f a k = absurd (never (sym a ∙ no-head))
-  given-by (opens frame) f a k = absurd (never (sym a ∙ no-head))
-  given-by ends f a k = absurd (never (sym a ∙ no-head))
-  given-by (restarts at u) f a k = absurd (never (sym a ∙ no-head))
+  head-runs (symbol x own (wrong sl d) soft) f a k = absurd (never (sym a ∙ wrong-quiet h x own (wrong sl d) soft (says-1 s h t x own (wrong sl d) soft (own-wrong sl d))))
+  head-runs (symbol x (wrong al d) b soft) f a k = absurd (never (sym a ∙ wrong-quiet h x (wrong al d) b soft (says-1 s h t x (wrong al d) b soft (wrong-any al d b))))
+  head-runs (points bits ps q) f a k = absurd (never (sym a ∙ no-head))
+  head-runs (taps ts frame) f a k = absurd (never (sym a ∙ no-head))
+  head-runs (opens frame) f a k = absurd (never (sym a ∙ no-head))
+  head-runs ends f a k = absurd (never (sym a ∙ no-head))
+  head-runs (restarts at u) f a k = absurd (never (sym a ∙ no-head))
 
   none-by : (c : Call) → CallFits c → anyHead (eventsIn h c) ≡ false → NoSoft c (toldBy s c)
   none-by (symbol x own own soft) f a = own-none s h t x soft f a
@@ -163,7 +194,21 @@ module _ (s : System) (h : History) (t : Tied s h) where
   first-by ends f k = unfold toldBy plain in record { runs = refl; soft = refl }
   first-by (restarts at u) f k = unfold toldBy plain in record { runs = refl; soft = refl }
 
+  first-runs : toldIn h ≡ 0 → runsWith h ≡ noRuns
+  unfolding runsWith
+  first-runs k = if-yes (eqb (toldIn h) 0) noRuns _ (eq-eqb (toldIn h) 0 k)
+
+  -- ---- the runs, and nothing otherwise
+  pub runs-by : (c : Call) → CallFits c → toldBy s c .runs ≡ runsIn h c
+  unfolding runsIn
+  runs-by c f =
+      by-test (anyHead (eventsIn h c))
+      (λ a.
+      by-test (eqb (toldIn h) 0)
+      (λ k. let z = eqb-true (toldIn h) 0 k in first-by c f z .runs ∙ sym (first-runs z))
+      (λ k. head-runs c f a (omega (arith, eqb-false (toldIn h) 0 k)))
+      ∙ sym (if-yes (anyHead (eventsIn h c)) (runsWith h) noRuns a))
+      (λ a. none-by c f a .runs ∙ sym (if-no (anyHead (eventsIn h c)) (runsWith h) noRuns a))
+
   pub slots-told : (c : Call) → CallFits c → (rest : List Call) → SlotTold h s c (toldBy s c) rest
-  slots-told c f rest =
-      let e = ap anyHead (call-steps s h c t f .events) in
-      record { given = λ a k. given-by c f (sym e ∙ a) k; no-head = λ a. none-by c f (sym e ∙ a); first-head = first-by c f }
+  slots-told c f rest = let e = ap anyHead (call-steps s h c t f .events) in record { no-head = λ a. none-by c f (sym e ∙ a); first-head = first-by c f }

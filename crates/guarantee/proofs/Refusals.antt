@@ -36,7 +36,7 @@ and-no a b c e = rw e
 full-by : (u : Training) (r : Receiver) (x : Input) (l : Lent) (n : ℕ) → SumsTied u (r .back .eq) → Sums r x l n → full 9296 r x l ≡ fullBy u n
 unfolding fullBy
 full-by none r x l n t k = k .closed t
-full-by (since m) r x l n t k = k .full-is (t .0) ∙ ap (λ (v : ℕ). ltb 4194304 (v + n)) (t .1)
+full-by (since frame m) r x l n t k = k .full-is (t .0) ∙ ap (λ (v : ℕ). ltb 4194304 (v + n)) (t .1)
 
 module _ (s : System) (h : History) (t : Tied s h) (x : Input) (soft : List ℤ) where
   abbrev r : Receiver

@@ -15,7 +15,7 @@ use Rattle.receiver.specs.declared.Listened.{Listened}
 use Rattle.receiver.specs.declared.Receiver.{Receiver}
 use Rattle.receiver_slot.specs.Slot.{correctedAll}
 use Rattle.sync_corr.specs.Correlate.{onesOf}
-use Rattle.receiver.specs.Symbol.{Input, Lent, enough, full, heads, left, slot, synced}
+use Rattle.receiver.specs.Symbol.{Input, Lent, enough, full, heads, left, nextOf, slot, synced}
 use Rattle.receiver_laws.proofs.Heads.{Begun}
 use Rattle.receiver_range.proofs.Slots.{Trains, slot-adjoins, slot-opened}
 use Rattle.receiver_range.proofs.Symbols.{due-is, none-due, slot-is, symbol-trains}
@@ -146,10 +146,10 @@ module _ (r : Receiver) (x : Input) (l : Lent) (c : CoherentReceiver r) where
   unfolding dueIn
   first-due e i = let b = some-heads e in b .due ∙ ap (λ (p : SlotPhase). dueIn 9296 p (b .first)) (idle-is (r .front .phase) i)
 
-  -- a later one: the slot held is whole
+  -- a later one: the slot held is whole, and began 9,296 before the window that the symbol completes
   pub later-due : anyHead es ≡ true → lockedAt (r .front .sync .run .lock) ((r .front .sync .run .t - 23) % 9296) ≡ true → isHeld (r .front .phase) ≡ true →
-      (w : WholeSlot) × (heads 9296 r x l .due ≡ Slot w)
-  unfolding dueIn
+      (w : WholeSlot) × (heads 9296 r x l .due ≡ Slot w) × (w .head .at + 9296 + 23 ≡ nextOf r)
+  unfolding dueIn nextOf wholeOf
   later-due e k i =
       let b = some-heads e in
       let h = held-is (r .front .phase) i in
@@ -157,7 +157,11 @@ module _ (r : Receiver) (x : Input) (l : Lent) (c : CoherentReceiver r) where
       let f : HeldFits (r .front .sync .run) y = subst (PhaseFits (r .front .sync .run)) (h .1) (c .phase) in
       let n = whole-now (r .front .sync .run) y (c .sync .heads) f (c .sync .lock) k in
       let w = wholeOf (y .head) (b .first) in
-      (w, b .due ∙ ap (λ (p : SlotPhase). dueIn 9296 p (b .first)) (h .1) ∙ if-yes (eqb (y .count) 9296) (Slot w) NoSlot (eq-eqb (y .count) 9296 n))
+      (
+        w,
+        b .due ∙ ap (λ (p : SlotPhase). dueIn 9296 p (b .first)) (h .1) ∙ if-yes (eqb (y .count) 9296) (Slot w) NoSlot (eq-eqb (y .count) 9296 n),
+        omega (arith, f .counted, n),
+      )
 
   module _ (hf : onesOf (x .f) ≡ true) (hs : onesOf (x .s) ≡ true) (w : WholeSlot) (e : heads 9296 r x l .due ≡ Slot w) where
     after-is : left 9296 r x l .back ≡ afterAll (r .back) (correctedAll 9296 w (x .table) (l .store)) (x .f) (x .s)

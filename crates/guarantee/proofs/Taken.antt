@@ -9,7 +9,7 @@ use Rattle.guarantee.proofs.Accs.{acc-short}
 use Rattle.guarantee.proofs.Prefix.{told-prefix}
 use Rattle.guarantee.proofs.Slots.{Slots, Sums, isHeld, symbol-slots, symbol-sums, trainingsBy}
 use Rattle.guarantee.proofs.Stretch.{grown-length, step-kept, step-lost, step-next}
-use Rattle.guarantee.proofs.Taps.{after-taps}
+use Rattle.guarantee.proofs.Taps.{SameTaps, after-taps}
 use Rattle.guarantee.proofs.Tied.{SumsTied, Tied, events-are, head-locked, is-lost, lost-is, nco-is, next-held, next-is, not-lost, toldIn}
 use Rattle.guarantee.specs.Calls.{System, begins}
 use Rattle.guarantee.specs.History.{History, Training, beginsWith, eventsWith, goesOn, keptOver, losesWith, nextIn, pushOf, takes, toldTo, trainedBy, trainingsWith, withSymbol}
@@ -38,10 +38,11 @@ use mathlib.Core.Path.{_∙_, _≡_, ap, ap₂, refl, subst, sym}
 use native.Mathlib.Omega.{arith}
 
 -- trainings added to sums
-sums-on : (u : Training) (r : Receiver) (x : Input) (l : Lent) (n : ℕ) → SumsTied u (r .back .eq) → Sums r x l n → SumsTied (trainedBy u n) (left 9296 r x l .back .eq)
+sums-on : (u : Training) (r : Receiver) (x : Input) (l : Lent) (n : ℕ) → SumsTied u (r .back .eq) → Sums r x l n → SameTaps (left 9296 r x l .back .eq) (r .back .eq) →
+    SumsTied (trainedBy u n) (left 9296 r x l .back .eq)
 unfolding trainedBy
-sums-on none r x l n t k = k .opened ∙ t
-sums-on (since m) r x l n t k = (k .opened ∙ t .0, k .counted (t .0) ∙ ap (λ (v : ℕ). v + n) (t .1))
+sums-on none r x l n t k f = k .opened ∙ t
+sums-on (since frame m) r x l n t k f = (k .opened ∙ t .0, k .counted (t .0) ∙ ap (λ (v : ℕ). v + n) (t .1), f .sums (k .opened ∙ t .0) .1 ∙ t .2)
 
 -- ---- a start
 pub kept-eq : {n k : Nco} {a b : List ℤ} {c d : TapsFrom} {p q : Points} {u v : Record} → n ≡ k → a ≡ b → c ≡ d → p ≡ q → u ≡ v →
@@ -134,19 +135,19 @@ module _ (s : System) (h : History) (t : Tied s h) (x : Input) (soft : List ℤ)
           subst (λ (k : ℕ). Slots k (left 9296 r x l .front .phase) (left 9296 r x l .back)) (sym told-now)
           (symbol-slots r x l (t .coherent) (a .first) (a .second) (toldIn h) (t .slots) (head-locked s h t x soft))
 
+      taps-now : SameTaps (left 9296 r x l .back .eq) (r .back .eq)
+      unfolding left
+      taps-now = after-taps (r .back) (slot 9296 r x l) (x .f) (x .s)
+
       sums-now : SumsTied (trainedBy (h .sums) (trainingsWith h x)) (left 9296 r x l .back .eq)
       sums-now =
           subst (λ (n : ℕ). SumsTied (trainedBy (h .sums) n) (left 9296 r x l .back .eq)) trainings-are
           (sums-on (h .sums) r x l (trainingsBy (toldIn h) (anyHead (synced 9296 r x l .events))) (t .sums)
-          (symbol-sums r x l (t .coherent) (a .first) (a .second) (toldIn h) (t .slots) (head-locked s h t x soft)))
+          (symbol-sums r x l (t .coherent) (a .first) (a .second) (toldIn h) (t .slots) (head-locked s h t x soft)) taps-now)
 
       coherent-now : CoherentReceiver (left 9296 r x l)
       unfolding receiverAfter
       coherent-now = subst CoherentReceiver (if-no (lost 9296 r x l) (started (nextOf r + 1) (keptOf (left 9296 r x l))) (left 9296 r x l) not-now) (coherent-symbol r x l (t .coherent) a room)
-
-      taps-now : (left 9296 r x l .back .eq .taps ≡ r .back .eq .taps) × (left 9296 r x l .back .eq .from ≡ r .back .eq .from)
-      unfolding left
-      taps-now = let w = after-taps (r .back) (slot 9296 r x l) (x .f) (x .s) in (w .taps, w .from)
 
       pub goes-tied : Tied (record { receiver = left 9296 r x l; acc = accAfter 9296 r x l; store = storeAfter 9296 r x l }) (goesOn h x)
       unfolding left goesOn
@@ -155,8 +156,8 @@ module _ (s : System) (h : History) (t : Tied s h) (x : Input) (soft : List ℤ)
             held = held-now;
             kept = kept-now;
             nco = nco-is s h t x soft;
-            taps = taps-now .0 ∙ t .taps;
-            from = taps-now .1 ∙ t .from;
+            taps = taps-now .taps ∙ t .taps;
+            from = taps-now .from ∙ t .from;
             points = t .points;
             sums = sums-now;
             slots = slots-now;

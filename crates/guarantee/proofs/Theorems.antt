@@ -1,8 +1,9 @@
 -- DEMAND 3: the claim of specs/Demand.antt. Assumes nothing.
 use Prim.Native.Nat.{ℕ, _-_}
+use Rattle.guarantee.proofs.Answers.{answers}
 use Rattle.guarantee.proofs.Lists.{calls-tied, fit-before, new-tied}
 use Rattle.guarantee.proofs.Locks.{lock-now-told, relocks}
-use Rattle.guarantee.proofs.Losses.{answers, losses}
+use Rattle.guarantee.proofs.Losses.{losses}
 use Rattle.guarantee.proofs.Outs.{slots-told}
 use Rattle.guarantee.proofs.Prefix.{premise-earlier}
 use Rattle.guarantee.proofs.Quiet.{before-lock, none-refused}

@@ -35,7 +35,7 @@ use mathlib.Core.Path.{_∙_, _≡_, ap, ap₂, refl, sym}
 -- ---- sums as the history has them
 abbrev pub SumsTied : Training → Equaliser → Type 0
 SumsTied none e = e .opened ≡ false
-SumsTied (since m) e = (e .opened ≡ true) × (e .sums .count ≡ m)
+SumsTied (since frame m) e = (e .opened ≡ true) × (e .sums .count ≡ m) × (e .sums .frame ≡ frame)
 
 -- how many symbols of the stretch told a head
 abbrev pub toldIn : History → ℕ

@@ -1,11 +1,11 @@
 -- DEMAND 3. For every list of a receiver's calls from a new one on, and for every loss in it. docs/GUARANTEE.md has it sentence by sentence beside
 -- the order and document 01.
-use Prim.Native.Nat.{ℕ, suc, _+_, _-_, _*_, _/_, _≤_, _<_}
+use Prim.Native.Nat.{ℕ, suc, _+_, _-_, _*_, _/_, _%_, _≤_, _<_}
 use mathlib.Core.Bool.{true, false}
 use mathlib.Core.List.{List, [], _∷_, _++_}
 use mathlib.Core.Logic.{_⊎_}
 use mathlib.Core.Path.{_≡_}
-use lib.Dec.{eqb}
+use lib.Dec.{eqb, ltb}
 use lib.IntN.{ℤ, pos}
 use lib.ListN.{length, getD, replicate}
 use Rattle.laws.specs.Choice.{if_then_else_}
@@ -15,10 +15,11 @@ use Rattle.sync_step.specs.declared.Event.the-variants.{Nothing, Head, Period, 
 use Rattle.sync_step.specs.declared.Events.{Events}
 use Rattle.sync_step.specs.declared.SyncStats.{SyncStats}
 use Rattle.sync_step.specs.Step.{isLocked, offsetOf}
-use Rattle.sync_history.specs.History.{Eighth, LockOn, LockBy, LossBy, Premise, endOf}
+use Rattle.sync_history.specs.History.{accAfter, Eighth, LockOn, LockBy, LossBy, Premise, endOf}
 use Rattle.sync_tie.specs.Pushes.{Push, sizeAt}
 use Rattle.sync_tie.specs.Claims.{anyHead, HeadAt}
 use Rattle.sync_tie.specs.Story.{takenAt}
+use Rattle.sums.specs.Sums.{emptySums}
 use Rattle.demap.specs.Answers.{demapRefusal, demapBuffer}
 use Rattle.receiver.specs.declared.Kept.{Kept}
 use Rattle.receiver.specs.Started.{started, newKept}
@@ -27,8 +28,8 @@ use Rattle.receiver.specs.Symbol.{Input, Lent, aligned}
 use Rattle.receiver.specs.Answers.{noRuns, newAnswer, newAcc}
 use Rattle.receiver_laws.specs.Softs.{BitTrue, SoftTrue}
 use Rattle.guarantee.specs.Calls.{Accumulators, SlotStore, Call, System, Told, CallsFit, begins, lentTo, afterCall, afterCalls, toldBy, toldAll}
-use Rattle.guarantee.specs.Calls.{symbol, points, taps, opens, ends, restarts}
-use Rattle.guarantee.specs.History.{History, beginsWith, nextIn, withSymbol, keptIn, keptOver, refusalIn, eventsIn, losesBy, endsStretch, happenAll, toldTo, endsWith, countOf}
+use Rattle.guarantee.specs.Calls.{symbol, points, taps, opens, ends, restarts, own, wrong}
+use Rattle.guarantee.specs.History.{History, beginsWith, nextIn, withSymbol, keptIn, keptOver, refusalIn, eventsIn, losesBy, endsStretch, happenAll, happens, toldTo, runsIn, endedIn, isOpen, frameOf, countOf}
 
 -- ---- words
 -- a loss is told with this restart position
@@ -64,6 +65,25 @@ pub record NoSoft (c : Call) (t : Told) : Type 0 where
   pub runs : t .runs ≡ noRuns
   pub soft : t .soft ≡ softOf c
 
+-- the accumulators of a stretch, each from 0: that of place i has taken in, period by period, the sizes of those positions at i whose windows are complete
+unfoldable pub takenIn : ℕ → ℕ → ℕ
+takenIn i positions = if ltb i (positions % 9296) then positions / 9296 + 1 else positions / 9296
+
+pub record Accumulated (ps : List Push) (acc : List ℕ) : Type 0 where
+  pub long : length acc ≡ 9296
+  pub each : (i : ℕ) → i < 9296 → getD acc i 0 ≡ accAfter 9296 (sizeAt ps) 0 i (takenIn i (length ps - 23))
+
+-- the accumulators that a call was lent, afterwards: the receiver's own, or those that gave 1 as they were
+abbrev pub lentBack : Call → List ℕ → List ℕ
+lentBack (symbol x own b soft) acc = acc
+lentBack (symbol x (wrong given e) b soft) acc = given
+lentBack (points bits ps k) acc = []
+lentBack (taps ts frame) acc = []
+lentBack (opens frame) acc = []
+lentBack ends acc = []
+lentBack (restarts at own) acc = acc
+lentBack (restarts at (wrong given e)) acc = given
+
 -- ---- the stretch that a call belongs to: its accepted symbols, this one too
 unfoldable pub stretchWith : History → Call → List Push
 stretchWith h (symbol x a b soft) = if eqb (refusalIn h (symbol x a b soft)) 0 then withSymbol h x else h .pushes
@@ -91,11 +111,19 @@ module _ (h : History) (s : System) (c : Call) (t : Told) (rest : List Call) whe
   abbrev m : ℕ
   m = length (h .pushes)
 
-  -- "the receiver's answers are those that the definitions give": each refusal number, the events in order, and how many symbols ended sums counted
+  -- "the receiver's answers are those that the definitions give": each refusal number, the events in order, the runs; whether sums were ended, of which frame and
+  -- how many symbols they counted; the accumulators. The soft buffer: `SoftBits`, and `NoSoft` where none comes
   pub record Answers : Type 0 where
     pub refusal : t .refusal ≡ refusalIn h c
     pub events : t .events ≡ eventsIn h c
-    pub ended : c ≡ ends → (t .ended ≡ endsWith (h .sums)) × (t .sums .count ≡ countOf (h .sums))
+    pub runs : t .runs ≡ runsIn h c
+    pub ended : t .ended ≡ isOpen (endedIn h c)
+    pub frame : t .sums .frame ≡ frameOf (endedIn h c)
+    pub count : t .sums .count ≡ countOf (endedIn h c)
+    pub no-sums : t .ended ≡ false → t .sums ≡ emptySums 0
+    -- the receiver's own are those of the stretch that runs after the call
+    pub acc : Accumulated (happens h c .pushes) (t .acc)
+    pub lent : t .lent ≡ lentBack c (t .acc)
 
   -- losses are told exactly where the history has them, with their restart positions
   pub record Losses : Type 0 where
@@ -149,15 +177,10 @@ module _ (h : History) (s : System) (c : Call) (t : Told) (rest : List Call) whe
     pub fit : length (softAll (h .points) (aligned 9296 (s .receiver) x l)) ≤ 44880
     pub are-true : (i : ℕ) → i < length (softAll (h .points) (aligned 9296 (s .receiver) x l)) → SoftTrue (h .points) (aligned 9296 (s .receiver) x l) i
 
-  -- "A corrected slot is aligned .. five symbols late": a head after another one of its stretch completes a slot; all of it but its last five come out in that
-  -- call, behind the five of the slot before. Nothing comes out otherwise
-  abbrev heads-before : ℕ
-  heads-before = toldTo (h .base) (h .last) (h .pushes) (length (h .pushes))
-
+  -- a head after another one of its stretch completes a slot (`runsIn`); nothing comes out otherwise
   pub record SlotTold : Type 0 where
-    pub given : anyHead (t .events) ≡ true → 1 ≤ heads-before → (t .runs .tail .count ≡ (if eqb heads-before 1 then 0 else 5)) × (t .runs .body .count ≡ 9291)
     pub no-head : anyHead (t .events) ≡ false → NoSoft c t
-    pub first-head : heads-before ≡ 0 → NoSoft c t
+    pub first-head : toldTo (h .base) (h .last) (h .pushes) (length (h .pushes)) ≡ 0 → NoSoft c t
 
   pub record CallClaims : Type 0 where
     pub answers : Answers

@@ -21,17 +21,20 @@ use Rattle.carrier.specs.Carrier.{startedNco, rotatedOf, advancedNco, heardOf}
 use Rattle.demap.specs.Answers.{badPoints, badScale}
 use Rattle.eq.specs.declared.TapsFrom.{TapsFrom}
 use Rattle.eq.specs.declared.TapsFrom.the-variants.{Frame}
+use Rattle.receiver_slot.specs.declared.AlignedRun.{AlignedRun}
 use Rattle.receiver_slot.specs.declared.Points.{Points}
+use Rattle.receiver_slot.specs.declared.Runs.{Runs}
+use Rattle.receiver_slot.specs.Slot.{noRun}
 use Rattle.receiver.specs.declared.Kept.{Kept}
 use Rattle.receiver.specs.Symbol.{Input}
-use Rattle.receiver.specs.Answers.{loadedPoints}
+use Rattle.receiver.specs.Answers.{loadedPoints, noRuns}
 use Rattle.guarantee.specs.Calls.{Accumulators, SlotStore, Call}
 use Rattle.guarantee.specs.Calls.{symbol, points, taps, opens, ends, restarts, own, wrong}
 
--- how many symbols trained since sums were opened
+-- open sums: the frame that they were opened for, and how many symbols have trained since
 pub data Training : Type 0 where
   none : Training
-  since : ℕ → Training
+  since : (frame : ℕ) (count : ℕ) → Training
 
 pub record History : Type 0 where
   -- the position of the stretch's first symbol, and the frame record kept from before
@@ -112,12 +115,12 @@ trainingsWith h x =
 
 unfoldable pub trainedBy : Training → ℕ → Training
 trainedBy none k = none
-trainedBy (since m) k = since (m + k)
+trainedBy (since frame m) k = since frame (m + k)
 
 -- "training count 4,194,304 before any addition the call would make (a receiver's symbol: any of its trainings)"
 unfoldable pub fullBy : Training → ℕ → Bool
 fullBy none k = false
-fullBy (since m) k = ltb 4194304 (m + k)
+fullBy (since frame m) k = ltb 4194304 (m + k)
 
 -- ---- kept values, as they are now; "last frame record": that of the readings so far
 unfoldable pub keptIn : History → Kept
@@ -195,7 +198,7 @@ accepts h (points bits ps k) =
 accepts h (taps ts frame) =
     record { base = h .base; last = h .last; pushes = h .pushes; carrier = h .carrier; taps = ts; from = Frame frame; points = h .points; sums = h .sums }
 accepts h (opens frame) =
-    record { base = h .base; last = h .last; pushes = h .pushes; carrier = h .carrier; taps = h .taps; from = h .from; points = h .points; sums = since 0 }
+    record { base = h .base; last = h .last; pushes = h .pushes; carrier = h .carrier; taps = h .taps; from = h .from; points = h .points; sums = since frame 0 }
 accepts h ends =
     record { base = h .base; last = h .last; pushes = h .pushes; carrier = h .carrier; taps = h .taps; from = h .from; points = h .points; sums = none }
 accepts h (restarts at a) = beginsWith at (keptIn h)
@@ -235,11 +238,41 @@ eventsIn h (opens frame) = noEvents
 eventsIn h ends = noEvents
 eventsIn h (restarts at a) = noEvents
 
--- the sums that an end gives have counted so many
-unfoldable pub endsWith : Training → Bool
-endsWith none = false
-endsWith (since m) = true
+-- ---- runs: "A corrected slot is aligned .. five symbols late". A head after another one of its stretch completes the slot of 9,296 that began with that one; all of
+-- it but its last five come out, behind the last five of the slot before, which are its symbols 9,291 to 9,295. The bits are those of the points last loaded.
+-- the position of that slot's first symbol: the call's symbol, the next, is the last of the 24 with which the next slot begins
+unfoldable pub slotAt : History → ℕ
+slotAt h = nextIn h - 23 - 9296
+
+unfoldable pub runIn : History → (at j count : ℕ) → AlignedRun
+runIn h at j count = record { at = at; j = j; count = count; bits = h .points .bits }
+
+unfoldable pub runsWith : History → Runs
+runsWith h =
+    let k = toldTo (h .base) (h .last) (h .pushes) (length (h .pushes)) in
+    let tail = if eqb k 1 then noRun else runIn h (slotAt h - 5) 9291 5 in
+    if eqb k 0 then noRuns else record { tail = tail; body = runIn h (slotAt h) 0 9291 }
+
+unfoldable pub runsIn : History → Call → Runs
+runsIn h c = if anyHead (eventsIn h c) then runsWith h else noRuns
+
+-- ---- the sums that a call gives back: an end's, if they were open
+unfoldable pub endedIn : History → Call → Training
+endedIn h (symbol x a b soft) = none
+endedIn h (points bits ps k) = none
+endedIn h (taps ts frame) = none
+endedIn h (opens frame) = none
+endedIn h ends = h .sums
+endedIn h (restarts at a) = none
+
+unfoldable pub isOpen : Training → Bool
+isOpen none = false
+isOpen (since frame m) = true
+
+unfoldable pub frameOf : Training → ℕ
+frameOf none = 0
+frameOf (since frame m) = frame
 
 unfoldable pub countOf : Training → ℕ
 countOf none = 0
-countOf (since m) = m
+countOf (since frame m) = m

@@ -28,7 +28,7 @@ use Rattle.phase.specs.declared.Corrected.{Corrected}
 use Rattle.phase.specs.declared.WholeSlot.{WholeSlot}
 use Rattle.phase.specs.Phase.{correctedOf}
 use Rattle.receiver_slot.specs.declared.Points.{Points}
-use Rattle.receiver_slot.specs.Slot.{alignedAll, alignedBy, correctedAll, runsOf, tapsFor, waitingBefore}
+use Rattle.receiver_slot.specs.Slot.{alignedAll, alignedBy, correctedAll, noRun, runsOf, tapsFor, waitingBefore}
 use Rattle.receiver_slot.specs.Aligned.{runBy}
 use Rattle.receiver_slot.proofs.Aligned.{body-is, firsts-cons, joined-few, run-count, tail-is}
 use Rattle.receiver_laws.specs.Aligned.{BeginsWith, EqualisedAt, Filled, In, RunsAre}
@@ -60,6 +60,12 @@ first-begins : (p : Points) (g : ℕ → Meta) (n : ℕ) → BeginsWith p (g 0) 
 unfolding runBy
 first-begins p g n = rw (firsts-cons g n) (record { at-is = refl; j-is = refl; bits-are = refl })
 
+-- a run of none
+run-none : (p : Points) (l : List Meta) → runBy p l .count ≡ 0 → runBy p l ≡ noRun
+unfolding runBy
+run-none p [] e = refl
+run-none p (m ∷ ms) e = absurd (omega (arith, e))
+
 pub runs-are : (p : Points) (b : Back) (w : WholeSlot) (table store f s : List ℤ) → b .metas .count ≤ 5 →
     let cs = correctedAll 9296 w table store in
     RunsAre p b w table store (runsOf p (waitingBefore b cs) (alignedAll b cs f s))
@@ -73,6 +79,7 @@ runs-are p b w table store f s h =
     let z = first-begins p g 9290 in
     record {
       tail-count = rw t k;
+      tail-none = rw t (run-none p (waitingOf (from .metas)));
       tail-begins = rw t (λ q. waits-first p b (w .head .at) (omega (arith, q, k)));
       body-count = rw d (run-count p (firsts g 9291) ∙ length-firsts g 9291);
       body-begins = rw d z;

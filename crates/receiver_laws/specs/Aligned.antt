@@ -14,7 +14,7 @@ use Rattle.phase.specs.Phase.{correctedOf}
 use Rattle.receiver_slot.specs.declared.AlignedRun.{AlignedRun}
 use Rattle.receiver_slot.specs.declared.Points.{Points}
 use Rattle.receiver_slot.specs.declared.Runs.{Runs}
-use Rattle.receiver_slot.specs.Slot.{pointsFor, tapsFor}
+use Rattle.receiver_slot.specs.Slot.{noRun, pointsFor, tapsFor}
 use lib.IntN.{ℤ}
 use lib.ListN.{length}
 use mathlib.Core.List.{List, _∷_, _++_}
@@ -29,6 +29,7 @@ pub record BeginsWith (p : Points) (m : Meta) (r : AlignedRun) : Type 0 where
 pub record RunsAre (p : Points) (b : Back) (w : WholeSlot) (table store : List ℤ) (r : Runs) : Type 0 where
   -- those that waited, unless a gap dropped them: the oldest first
   pub tail-count : r .tail .count ≡ joinedTo b (w .head .at) .metas .count
+  pub tail-none : r .tail .count ≡ 0 → r .tail ≡ noRun
   pub tail-begins : 0 < r .tail .count → BeginsWith p (b .metas .first) (r .tail)
   -- all of the slot but its last five, from its head's position and slot index 0 on
   pub body-count : r .body .count ≡ 9291
