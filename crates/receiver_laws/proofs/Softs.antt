@@ -63,7 +63,7 @@ own p a rest i (Main m) e h =
       main = m;
       is-main = e;
       below = omega (arith, h, length-firsts (softAt (labelMetric (a .z .i) (a .z .q) (q .points)) (q .bits) (pos (q .k))) (q .bits));
-      index = refl;
+      index = omega arith;
     }
 own p a rest i (Tmcc k) e h = absurd (not-suc-le-zero h)
 own p a rest i (Refused n) e h = absurd (not-suc-le-zero h)
