@@ -30,11 +30,11 @@ use mathlib.Core.Path.{_∙_, _≡_, ap, refl, subst, sym}
 use native.Mathlib.Omega.{arith}
 
 -- ---- sums: those that an end gives, or none
-record SumsTold (u : Training) (ended : Bool) (sums : Sums) : Type 0 where
-  pub ended : ended ≡ isOpen u
+record SumsTold (u : Training) (done : Bool) (sums : Sums) : Type 0 where
+  pub ended : done ≡ isOpen u
   pub frame : sums .frame ≡ frameOf u
   pub count : sums .count ≡ countOf u
-  pub no-sums : ended ≡ false → sums ≡ emptySums 0
+  pub no-sums : done ≡ false → sums ≡ emptySums 0
 
 no-sums-told : SumsTold none false (emptySums 0)
 unfolding isOpen frameOf countOf emptySums
