@@ -156,8 +156,7 @@ module _ (r : Receiver) (x : Input) (l : Lent) (c : CoherentReceiver r) where
       let y = h .0 in
       let f : HeldFits (r .front .sync .run) y = subst (PhaseFits (r .front .sync .run)) (h .1) (c .phase) in
       let n = whole-now (r .front .sync .run) y (c .sync .heads) f (c .sync .lock) k in
-      let w = wholeOf (y .head) (b .first) in
-      (
+      let w = wholeOf (y .head) (b .first) in (
         w,
         b .due ∙ ap (λ (p : SlotPhase). dueIn 9296 p (b .first)) (h .1) ∙ if-yes (eqb (y .count) 9296) (Slot w) NoSlot (eq-eqb (y .count) 9296 n),
         omega (arith, f .counted, n),
