@@ -1,6 +1,7 @@
--- A closed run of the readings, by computing: two missed markers in a row lose, and one does not. Assumes nothing.
+-- A closed run of the readings, by computing, by the step and by the rules: two missed markers in a row lose, and one does not. Assumes nothing.
 use Prim.Native.Nat.{ℕ, zero, suc, _+_, _*_, _%_}
 use mathlib.Core.Bool.{Bool, true, false, _||_}
+use mathlib.Core.Option.{some}
 use mathlib.Core.Path.{_≡_, refl}
 use lib.Dec.{eqb}
 use lib.IntN.{ℤ, pos}
@@ -19,6 +20,8 @@ use Rattle.sync_heads.specs.declared.Headed.the-variants.{Nothing}
 use Rattle.sync_heads.specs.declared.Taken.{Taken}
 use Rattle.sync_heads.specs.Words.{sideOf, marginOf, negated, saidOf}
 use Rattle.sync_heads.specs.Frames.{marksOf, swayedOf, nextSlot, unknownSlot, frameDue, gapOf, frameOf, framedOf, tickOf, dueOf, elsewhereOf, fsyncCourse}
+use Rattle.sync_history.specs.History.{earlier, firstTo}
+use Rattle.sync_history.specs.Heads.{clamped, expected, fAt, firstMark, frameAt, majority, markedAt, markersLose, missedAt, missedSince, parity, positionAt, positiveAt, recordSince, recordTo, slotAt, slotSince, ssyncAt, strayAt, straySince}
 use Rattle.sync_heads.specs.Heads.{isFsync, ssyncOf, fsyncOf, ssyncTaken, fsyncTaken, knownOf, bothHeads, firstOf, readOf}
 
 -- heads of even number carry Ssync, the others Fsync, but for the two whose number is a or b: NotFsync
@@ -53,3 +56,17 @@ pub record MarkerRuns : Type 0 where
 pub marker-runs : MarkerRuns
 unfolding word readings readOf firstOf bothHeads knownOf fsyncTaken ssyncTaken fsyncOf ssyncOf isFsync saidOf negated marginOf sideOf magApprox fsyncCourse elsewhereOf dueOf tickOf framedOf frameOf gapOf frameDue unknownSlot nextSlot swayedOf marksOf choice.if_then_else_
 marker-runs = record { first-mark = refl; second-mark = (refl, refl); missed = (refl, refl, refl); held = refl; loses = refl }
+
+-- the same by the rules alone: the first mark begins the numbers, a mark a frame later is expected, one miss does not lose, two in a row do
+pub record RuleRuns : Type 0 where
+  pub first-mark : firstMark (word 5 125) 126 ≡ some 5
+  pub second-mark : markedAt (word 5 125) 125 ≡ true
+  pub numbers : (slotAt 9296 37184 Never (word 5 125) 5 ≡ In 0 0) × (slotAt 9296 37184 Never (word 5 125) 125 ≡ In 0 1)
+  pub missed : (missedAt (word 5 5) 125 ≡ true) × (markersLose (word 5 5) 125 ≡ false)
+  pub stray : strayAt (word 5 11) 11 ≡ true
+  pub loses : markersLose (word 5 5) 245 ≡ true
+  pub kept : recordTo 9296 37184 Never (word 5 5) 245 ≡ Last (37184 + 125 * 9296) 1
+
+pub rule-runs : RuleRuns
+unfolding word parity ssyncAt fAt positiveAt majority clamped markedAt firstTo earlier expected missedSince missedAt markersLose straySince strayAt slotAt slotSince frameAt frameOf positionAt recordTo recordSince negated marginOf sideOf magApprox choice.if_then_else_
+rule-runs = record { first-mark = refl; second-mark = refl; numbers = (refl, refl); missed = (refl, refl); stray = refl; loses = refl; kept = refl }

@@ -17,10 +17,16 @@ pub use Rattle.sync_history.proofs.Figures.{first-greatest, sum-none, s
 pub use Rattle.sync_history.proofs.Locks.{none-before, one-lock, locks}
 -- for every n and all sizes, as long as no period loses
 pub use Rattle.sync_history.proofs.Rule.{rule-tells}
+-- for every n and all sizes: lock and loss by periods as functions
+pub use Rattle.sync_history.proofs.Found.{lock-found}
+-- for every n and all readings, as long as none has lost; and for all readings
+pub use Rattle.sync_history.proofs.Read.{heads-tell, markers-tell}
 -- for every n and all sizes
 pub use Rattle.sync_history.proofs.Accumulators.{acc-bounds}
 -- by computing, at a period of 3
 pub use Rattle.sync_history.proofs.Runs.{runs, lock-happens, loss-happens, relock-happens}
+-- by computing, at heads 5, 125 and 245
+pub use Rattle.sync_history.proofs.Marks.{marker-runs, rule-runs}
 
 -- ---- at the period 9,296 the fourth period ends with symbol 37,207: 4 * 9296 + 23 is 37207
 -- "a stretch of fewer than 37,207 symbols has no lock"

@@ -1,8 +1,11 @@
 -- The lock and its loss, on the sizes of the positions alone: s i is the size of position i, n the period (9,296). No state is recorded here.
 use mathlib.Core.Logic.{_≢_}
 use mathlib.Core.Path.{_≡_}
-use mathlib.Core.Bool.{true}
+use mathlib.Core.Bool.{Bool, true, not, _&&_}
+use mathlib.Core.Option.{Option, none, some}
+use lib.Dec.{eqb, leb}
 use Prim.Native.Nat.{ℕ, zero, suc, _+_, _-_, _*_, _%_, _≤_, _<_}
+use Rattle.laws.specs.Choice.{if_then_else_}
 use Rattle.sync_lock.specs.Period.{leakOf, noTally, addedOf, countsOf}
 use Rattle.sync_lock.specs.declared.Tally.{Tally}
 
@@ -67,6 +70,37 @@ pub record LossBy (n : ℕ) (s : ℕ → ℕ) (m : ℕ) : Type 0 where
   pub period : ℕ
   pub by : endOf n period ≤ m
   pub eighth : Eighth n s at period
+
+-- ---- lock and loss, as functions of the periods
+-- the first of 0 .. i - 1 that passes a test
+unfoldable pub earlier : Option ℕ → Option ℕ → Option ℕ
+earlier (some f) x = some f
+earlier none x = x
+
+unfoldable pub firstTo : (ℕ → Bool) → ℕ → Option ℕ
+firstTo t zero = none
+firstTo t (suc i) = earlier (firstTo t i) (if t i then some i else none)
+
+-- period k counts, with its peak at p
+unfoldable pub countsAt : ℕ → (ℕ → ℕ) → ℕ → ℕ → Bool
+countsAt n s p k = countsOf n (figures n s k) && eqb (figures n s k .place) p
+
+-- period k is a fourth counting period in a row with one peak position
+unfoldable pub fourthAt : ℕ → (ℕ → ℕ) → ℕ → Bool
+fourthAt n s k = let p = figures n s k .place in leb 3 k && countsAt n s p k && countsAt n s p (k - 1) && countsAt n s p (k - 2) && countsAt n s p (k - 3)
+
+-- the period with which the lock has fallen, if it has with one of the first k; it fell at that period's peak
+abbrev pub lockIn : ℕ → (ℕ → ℕ) → ℕ → Option ℕ
+lockIn n s k = firstTo (fourthAt n s) k
+
+-- none of the m periods up to k counts at p
+unfoldable pub othersTo : ℕ → (ℕ → ℕ) → ℕ → ℕ → ℕ → Bool
+othersTo n s p k zero = true
+othersTo n s p k (suc m) = not (countsAt n s p (k - m)) && othersTo n s p k m
+
+-- period k is an eighth other period in a row after the lock with period l
+unfoldable pub eighthAt : ℕ → (ℕ → ℕ) → ℕ → ℕ → Bool
+eighthAt n s l k = leb (l + 8) k && othersTo n s (figures n s l .place) k 8
 
 -- ---- the premise of demand 3, on the first m positions: "the correlation size is at least P at one fixed position and at most Q elsewhere,
 -- P ≥ 4Q + 8"; windows that are not complete are not among them
