@@ -127,12 +127,19 @@ module _ (r : Receiver) (acc : List ℕ) (a b : List ℤ) (g : Agree (r .front .
   call-same (restarts at own) = record { receivers = refl; accs = refl; stores = restart-held at acc }
   call-same (restarts at (wrong m d)) = record { receivers = refl; accs = refl; stores = restart-held at m }
 
+-- ---- a call of two such
+pub told-same : (s t : System) (c : Call) → Same s t → toldBy s c ≡ toldBy t c
+told-same s t c w =
+    let e : sys (s .receiver) (s .acc) (t .store) ≡ t = ap₂ (λ (r : Receiver) (k : List ℕ). sys r k (t .store)) (w .receivers) (w .accs) in
+    subst (λ (v : System). toldBy s c ≡ toldBy v c) e (same-told (s .receiver) (s .acc) (s .store) (t .store) (w .stores) c)
+
+pub after-same : (s t : System) (c : Call) → Same s t → Same (afterCall s c) (afterCall t c)
+after-same s t c w =
+    let e : sys (s .receiver) (s .acc) (t .store) ≡ t = ap₂ (λ (r : Receiver) (k : List ℕ). sys r k (t .store)) (w .receivers) (w .accs) in
+    subst (λ (v : System). Same (afterCall s c) (afterCall v c)) e (call-same (s .receiver) (s .acc) (s .store) (t .store) (w .stores) c)
+
 -- ---- every list of calls
 pub same-all : (s t : System) (cs : List Call) → Same s t → toldAll s cs ≡ toldAll t cs
 unfolding toldAll
 same-all s t [] w = refl
-same-all s t (c ∷ cs) w =
-    let e : sys (s .receiver) (s .acc) (t .store) ≡ t = ap₂ (λ (r : Receiver) (k : List ℕ). sys r k (t .store)) (w .receivers) (w .accs) in
-    let h = subst (λ (v : System). toldBy s c ≡ toldBy v c) e (same-told (s .receiver) (s .acc) (s .store) (t .store) (w .stores) c) in
-    let g = subst (λ (v : System). Same (afterCall s c) (afterCall v c)) e (call-same (s .receiver) (s .acc) (s .store) (t .store) (w .stores) c) in
-    ap₂ (λ (x : Told) (xs : List Told). x ∷ xs) h (same-all (afterCall s c) (afterCall t c) cs g)
+same-all s t (c ∷ cs) w = ap₂ (λ (x : Told) (xs : List Told). x ∷ xs) (told-same s t c w) (same-all (afterCall s c) (afterCall t c) cs (after-same s t c w))

@@ -5,7 +5,7 @@ use Rattle.guarantee.specs.Calls.{symbol, own, wrong}
 use Rattle.guarantee.specs.History.{ownAcc, ownStore}
 use Rattle.guarantee.proofs.Follow.{own-wrong, wrong-any}
 use Rattle.guarantee.proofs.Refusals.{wrong-fit}
-use Rattle.guarantee.specs.Feeds.{Feed, FeedClaim, FeedIs, Last, Silent, afterFeed, callAt, callsFrom, fedBy}
+use Rattle.guarantee.specs.Feeds.{Feed, FeedClaim, FeedIs, Silent, afterFeed, callAt, callsFrom, fedBy, toldFeed, toldNothing}
 use Rattle.laws.proofs.Tests.{by-test, if-both, if-either, neither, never}
 use Rattle.laws.specs.Choice.{if-no, if-yes, if_then_else_}
 use Rattle.frame.specs.declared.AlignedSymbol.{AlignedSymbol}
@@ -17,11 +17,12 @@ use Rattle.receiver.specs.declared.Receiver.{Receiver}
 use Rattle.receiver_slot.specs.Slot.{runOf, runsOf, softAll, waitingBefore, writtenOn}
 use Rattle.receiver_slot.specs.declared.Points.{Points}
 use Rattle.receiver_slot.specs.declared.Runs.{Runs}
+use Rattle.sums.specs.Sums.{emptySums}
 use Rattle.sync_step.specs.Events.{isNothing, noEvents}
 use Rattle.sync_step.specs.declared.Event.{Event}
 use Rattle.sync_step.specs.declared.Event.the-variants.{Head, Lost, Nothing, Period}
 use Rattle.sync_step.specs.declared.Events.{Events}
-use borrow.Author.Tests.{eq-eqb, eqb-true, ne-eqb}
+use borrow.Author.Tests.{eq-eqb, eqb-false, eqb-true, ne-eqb}
 use lib.Dec.{eqb}
 use lib.IntN.{ℤ}
 use lib.ListN.{drop, length, take}
@@ -29,6 +30,20 @@ use mathlib.Core.Bool.{Bool, false, true, not, _&&_, _||_}
 use mathlib.Core.List.{List, [], _∷_, _++_}
 use mathlib.Core.Path.{_∙_, _≡_, ap, ap₂, refl, subst, sym}
 use native.Mathlib.Omega.{arith}
+
+-- ---- what a feed that is not refused and is given the receiver's own accumulators tells
+abbrev toldOf : Fed → Told
+toldOf x =
+    record {
+      refusal = 0;
+      events = x .events;
+      runs = x .runs;
+      ended = false;
+      sums = emptySums 0;
+      soft = x .lent .soft;
+      lent = x .lent .acc;
+      acc = x .lent .acc;
+    }
 
 -- ---- an answer that tells nothing
 not-not : (b : Bool) → not b ≡ false → b ≡ true
@@ -42,7 +57,7 @@ nothing-is (Head g) k = absurd (never (sym k))
 nothing-is (Period p) k = absurd (never (sym k))
 nothing-is (Lost at) k = absurd (never (sym k))
 
-no-event : (es : Events) → anyEvent es ≡ false → es ≡ noEvents
+pub no-event : (es : Events) → anyEvent es ≡ false → es ≡ noEvents
 unfolding anyEvent noEvents
 no-event es k =
     let a = neither (not (isNothing (es .first)) || not (isNothing (es .second))) (not (isNothing (es .third))) k in
@@ -90,7 +105,7 @@ module _ (s : System) (x : Input) (soft : List ℤ) where
   unfolding afterCall lentTo handedAcc handedStore keptAcc keptStore
   after-one = refl
 
-  told-one : (toldBy s c .refusal ≡ a .refusal) × (toldBy s c .events ≡ a .events) × (toldBy s c .runs ≡ a .runs) × (toldBy s c .soft ≡ m .soft)
+  pub told-one : (toldBy s c .refusal ≡ a .refusal) × (toldBy s c .events ≡ a .events) × (toldBy s c .runs ≡ a .runs) × (toldBy s c .soft ≡ m .soft)
   unfolding toldBy lentTo handedAcc handedStore
   told-one = (refl, refl, refl, refl)
 
@@ -140,6 +155,13 @@ module _ (s : System) (x : Input) (soft : List ℤ) where
     unfolding lentAfter softAfter softAll writtenOn
     soft-none = ap (λ (y : Lent). y .soft) (lent-yes z) ∙ rw no-aligned
 
+    -- what it leaves, with the buffer for the next
+    pub left-alike : (afterCall s c .receiver ≡ a .receiver) × (record { acc = afterCall s c .acc; store = afterCall s c .store; soft = soft } ≡ m)
+    left-alike = (
+      ap (λ (y : System). y .receiver) after-one,
+      ap (λ (y : System). record { acc = y .acc; store = y .store; soft = soft }) after-one ∙ ap (λ (u : List ℤ). record { acc = m .acc; store = m .store; soft = u }) (sym soft-none),
+    )
+
     silent-one : Silent soft (toldBy s c)
     silent-one =
         record {
@@ -150,18 +172,27 @@ module _ (s : System) (x : Input) (soft : List ℤ) where
         }
 
 -- ---- a refused feed, and its first symbol
-refused-feed : (s : System) (d : Feed) → (feedRefusal (s .receiver) (d .block) (lentTo s (d .accumulators) (d .slots) (d .soft)) ≡ 0 → ⊥) →
-    (fedBy s d .used ≡ 0) × (fedBy s d .lent .soft ≡ d .soft)
-unfolding feedOf quietAt lentTo
+refused-feed : (s : System) (d : Feed) → (toldFeed s d .refusal ≡ 0 → ⊥) → fedBy s d .used ≡ 0
+unfolding feedOf quietAt toldFeed
 refused-feed s d k =
     let l = lentTo s (d .accumulators) (d .slots) (d .soft) in
-    if-either (λ (x : Fed). (x .used ≡ 0) × (x .lent .soft ≡ d .soft)) (eqb (feedRefusal (s .receiver) (d .block) l) 0) _ _
+    if-either (λ (x : Fed). x .used ≡ 0) (eqb (feedRefusal (s .receiver) (d .block) l) 0) _ _
     (λ e. absurd (k (eqb-true (feedRefusal (s .receiver) (d .block) l) 0 e)))
-    (λ e. (refl, refl))
+    (λ e. refl)
 
-first-feed : (s : System) (d : Feed) → 0 < symbolsOf (d .block) →
-    feedRefusal (s .receiver) (d .block) (lentTo s (d .accumulators) (d .slots) (d .soft)) ≡ toldBy s (callAt d 0) .refusal
-unfolding feedRefusal callAt toldBy
+-- one that uses some is not refused
+accepted-feed : (s : System) (d : Feed) (j : ℕ) → suc j ≡ fedBy s d .used → toldFeed s d .refusal ≡ 0
+accepted-feed s d j e =
+    let n = toldFeed s d .refusal in
+    by-test (eqb n 0) (λ t. eqb-true n 0 t) (λ t. absurd (omega (arith, e, refused-feed s d (eqb-false n 0 t))))
+
+-- one that uses none leaves all
+none-after : (s : System) (d : Feed) → afterFeed s d ≡ afterCalls s (callsFrom d 0 (fedBy s d .used)) → fedBy s d .used ≡ 0 → afterFeed s d ≡ s
+unfolding afterCalls callsFrom
+none-after s d e z = e ∙ ap (λ (n : ℕ). afterCalls s (callsFrom d 0 n)) z
+
+first-feed : (s : System) (d : Feed) → 0 < symbolsOf (d .block) → toldFeed s d .refusal ≡ toldBy s (callAt d 0) .refusal
+unfolding feedRefusal callAt toldBy toldFeed
 first-feed s d k = if-no (eqb (symbolsOf (d .block)) 0) _ _ (ne-eqb (symbolsOf (d .block)) 0 (λ e. omega (arith, e, k)))
 
 -- ---- k symbols from symbol i on
@@ -178,8 +209,8 @@ module _ (b : Block) (soft : List ℤ) where
     pub used : x .used ≡ i + n
     pub after : record { receiver = x .receiver; acc = x .lent .acc; store = x .lent .store } ≡ afterCalls s (callsFrom d i n)
     pub silent : (j : ℕ) → suc j < n → Silent soft (toldBy (afterCalls s (callsFrom d i j)) (callAt d (i + j)))
-    pub last : (j : ℕ) → suc j ≡ n → Last (toldBy (afterCalls s (callsFrom d i j)) (callAt d (i + j))) x
-    pub idle : n ≡ 0 → (x .events ≡ noEvents) × (x .runs ≡ noRuns) × (x .lent .soft ≡ soft)
+    pub last : (j : ℕ) → suc j ≡ n → toldOf x ≡ toldBy (afterCalls s (callsFrom d i j)) (callAt d (i + j))
+    pub idle : n ≡ 0 → (x .events ≡ noEvents) × (x .runs ≡ noRuns) × (x .lent .soft ≡ soft) × (x .lent .acc ≡ s .acc)
 
   none-fed : (s : System) (i k : ℕ) → FedIs s i k (quietAt i (s .receiver) (lentOf s))
   unfolding quietAt afterCalls callsFrom
@@ -191,7 +222,7 @@ module _ (b : Block) (soft : List ℤ) where
         after = refl;
         silent = λ j e. absurd (omega (arith, e));
         last = λ j e. absurd (omega (arith, e));
-        idle = λ e. (refl, refl, refl);
+        idle = λ e. (refl, refl, refl, refl);
       }
 
   abbrev answer : System → ℕ → Answer
@@ -201,8 +232,16 @@ module _ (b : Block) (soft : List ℤ) where
   leaves s i = symbolLent (s .receiver) (inputAt b i) (lentOf s)
 
   -- the last one
-  one-fed : (s : System) (i k : ℕ) → answer s i .refusal ≡ 0 →
-      FedIs s i (suc k) (record { used = i + 1; receiver = answer s i .receiver; lent = leaves s i; events = answer s i .events; runs = answer s i .runs })
+  abbrev one : System → ℕ → Fed
+  one s i = record { used = i + 1; receiver = answer s i .receiver; lent = leaves s i; events = answer s i .events; runs = answer s i .runs }
+
+  one-told : (s : System) (i : ℕ) → answer s i .refusal ≡ 0 → toldOf (one s i) ≡ toldBy s (callAt d i)
+  unfolding toldBy callAt lentTo handedAcc handedStore keptAcc
+  one-told s i z =
+      let x = one s i in
+      ap (λ (n : ℕ). record { refusal = n; events = x .events; runs = x .runs; ended = false; sums = emptySums 0; soft = x .lent .soft; lent = x .lent .acc; acc = x .lent .acc }) (sym z)
+
+  one-fed : (s : System) (i k : ℕ) → answer s i .refusal ≡ 0 → FedIs s i (suc k) (one s i)
   unfolding afterCalls callsFrom callAt
   one-fed s i k z =
       record {
@@ -215,17 +254,32 @@ module _ (b : Block) (soft : List ℤ) where
         idle = λ e. absurd (omega (arith, e));
       }
     where
-      told : Last (toldBy s (callAt d i)) (record { used = i + 1; receiver = answer s i .receiver; lent = leaves s i; events = answer s i .events; runs = answer s i .runs })
-      told = let w = told-one s (inputAt b i) soft in record { refusal = w .0 ∙ z; events = w .1; runs = w .2; soft-is = w .3 }
+      told : toldOf (one s i) ≡ toldBy s (callAt d i)
+      told = one-told s i z
 
-      first-last : (j : ℕ) → j ≡ 0 →
-          Last (toldBy (afterCalls s (callsFrom d i j)) (callAt d (i + j))) (record { used = i + 1; receiver = answer s i .receiver; lent = leaves s i; events = answer s i .events; runs = answer s i .runs })
+      first-last : (j : ℕ) → j ≡ 0 → toldOf (one s i) ≡ toldBy (afterCalls s (callsFrom d i j)) (callAt d (i + j))
       first-last j e =
           let g : i + 0 ≡ i = omega arith in
-          subst (λ (q : ℕ). Last (toldBy (afterCalls s (callsFrom d i q)) (callAt d (i + q))) (record { used = i + 1; receiver = answer s i .receiver; lent = leaves s i; events = answer s i .events; runs = answer s i .runs }))
-          (sym e) (subst (λ (q : ℕ). Last (toldBy s (callAt d q)) (record { used = i + 1; receiver = answer s i .receiver; lent = leaves s i; events = answer s i .events; runs = answer s i .runs })) (sym g) told)
+          subst (λ (q : ℕ). toldOf (one s i) ≡ toldBy (afterCalls s (callsFrom d i q)) (callAt d (i + q))) (sym e)
+          (subst (λ (q : ℕ). toldOf (one s i) ≡ toldBy s (callAt d q)) (sym g) told)
 
   -- one that tells nothing, before the others
+  silent-told : (s : System) (i : ℕ) (x : Fed) → Silent soft (toldBy s (callAt d i)) → x .events ≡ noEvents → x .runs ≡ noRuns → x .lent .soft ≡ soft →
+      x .lent .acc ≡ afterCall s (callAt d i) .acc → toldOf x ≡ toldBy s (callAt d i)
+  unfolding toldBy afterCall callAt lentTo handedAcc handedStore keptAcc
+  silent-told s i x q es rs so ac =
+      λ j.
+      record {
+        refusal = sym (q .refusal) j;
+        events = (es ∙ sym (q .events)) j;
+        runs = (rs ∙ sym (q .runs)) j;
+        ended = false;
+        sums = emptySums 0;
+        soft = (so ∙ sym (q .soft-is)) j;
+        lent = ac j;
+        acc = ac j;
+      }
+
   more-fed : (s : System) (i k : ℕ) (x : Fed) → Silent soft (toldBy s (callAt d i)) → FedIs (afterCall s (callAt d i)) (i + 1) k x → FedIs s i (suc k) x
   unfolding afterCalls callsFrom
   more-fed s i k x q w =
@@ -250,14 +304,12 @@ module _ (b : Block) (soft : List ℤ) where
       silents (suc j) e =
           subst (λ (v : ℕ). Silent soft (toldBy (afterCalls (afterCall s (callAt d i)) (callsFrom d (i + 1) j)) (callAt d v))) (there j) (w .silent j (omega (arith, e)))
 
-      idle-last : w .n ≡ 0 → Last (toldBy s (callAt d i)) x
-      idle-last e =
-          let z = w .idle e in
-          record { refusal = q .refusal; events = q .events ∙ sym (z .0); runs = q .runs ∙ sym (z .1); soft-is = q .soft-is ∙ sym (z .2) }
+      idle-last : w .n ≡ 0 → toldOf x ≡ toldBy s (callAt d i)
+      idle-last e = let z = w .idle e in silent-told s i x q (z .0) (z .1) (z .2) (z .3)
 
-      lasts : (j : ℕ) → suc j ≡ suc (w .n) → Last (toldBy (afterCalls s (callsFrom d i j)) (callAt d (i + j))) x
-      lasts zero e = subst (λ (v : ℕ). Last (toldBy s (callAt d v)) x) (sym here) (idle-last (omega (arith, e)))
-      lasts (suc j) e = subst (λ (v : ℕ). Last (toldBy (afterCalls (afterCall s (callAt d i)) (callsFrom d (i + 1) j)) (callAt d v)) x) (there j) (w .last j (omega (arith, e)))
+      lasts : (j : ℕ) → suc j ≡ suc (w .n) → toldOf x ≡ toldBy (afterCalls s (callsFrom d i j)) (callAt d (i + j))
+      lasts zero e = subst (λ (v : ℕ). toldOf x ≡ toldBy s (callAt d v)) (sym here) (idle-last (omega (arith, e)))
+      lasts (suc j) e = subst (λ (v : ℕ). toldOf x ≡ toldBy (afterCalls (afterCall s (callAt d i)) (callsFrom d (i + 1) j)) (callAt d v)) (there j) (w .last j (omega (arith, e)))
 
   goes-on : (s : System) (i k : ℕ) → answer s i .refusal ≡ 0 → tellsAny (answer s i) ≡ false →
       FedIs (afterCall s (callAt d i)) (i + 1) k (fedFrom b k (i + 1) (afterCall s (callAt d i) .receiver) (lentOf (afterCall s (callAt d i)))) →
@@ -265,13 +317,10 @@ module _ (b : Block) (soft : List ℤ) where
   unfolding callAt
   goes-on s i k z t w =
       let x = inputAt b i in
-      let e = after-one s x soft in
-      let q = soft-none s x soft z t in
-      let v : lentOf (afterCall s (callAt d i)) ≡ leaves s i =
-      ap (λ (y : System). record { acc = y .acc; store = y .store; soft = soft }) e ∙ ap (λ (u : List ℤ). record { acc = leaves s i .acc; store = leaves s i .store; soft = u }) (sym q) in
+      let e = left-alike s x soft z t in
       more-fed s i k (fedFrom b k (i + 1) (answer s i .receiver) (leaves s i)) (silent-one s x soft z t)
-      (subst (λ (y : Lent). FedIs (afterCall s (callAt d i)) (i + 1) k (fedFrom b k (i + 1) (answer s i .receiver) y)) v
-      (subst (λ (y : Receiver). FedIs (afterCall s (callAt d i)) (i + 1) k (fedFrom b k (i + 1) y (lentOf (afterCall s (callAt d i))))) (ap (λ (y : System). y .receiver) e) w))
+      (subst (λ (y : Lent). FedIs (afterCall s (callAt d i)) (i + 1) k (fedFrom b k (i + 1) (answer s i .receiver) y)) (e .1)
+      (subst (λ (y : Receiver). FedIs (afterCall s (callAt d i)) (i + 1) k (fedFrom b k (i + 1) y (lentOf (afterCall s (callAt d i))))) (e .0) w))
 
   fed-step : (k i : ℕ) (s : System) →
       FedIs (afterCall s (callAt d i)) (i + 1) k (fedFrom b k (i + 1) (afterCall s (callAt d i) .receiver) (lentOf (afterCall s (callAt d i)))) →
@@ -279,7 +328,7 @@ module _ (b : Block) (soft : List ℤ) where
   unfolding fedFrom
   fed-step k i s w =
       let a = answer s i in
-      let told : Fed = record { used = i + 1; receiver = a .receiver; lent = leaves s i; events = a .events; runs = a .runs } in
+      let told : Fed = one s i in
       let on = fedFrom b k (i + 1) (a .receiver) (leaves s i) in
       let quiet = quietAt i (s .receiver) (lentOf s) in
       if-either (FedIs s i (suc k)) (eqb (a .refusal) 0) (if tellsAny a then told else on) quiet
@@ -306,6 +355,18 @@ module _ (b : Block) (soft : List ℤ) where
       if-both (FedIs s 0 (symbolsOf b)) (eqb (feedRefusal (s .receiver) b (lentOf s)) 0) (fedFrom b (symbolsOf b) 0 (s .receiver) (lentOf s)) (quietAt 0 (s .receiver) (lentOf s))
       (fed-is (symbolsOf b) 0 s) (none-fed s 0 (symbolsOf b))
 
+  fed-told : (s : System) → toldFeed s d .refusal ≡ 0 → toldFeed s d ≡ toldOf (fedBy s d)
+  unfolding toldFeed keptAcc
+  fed-told s z =
+      let x = fedBy s d in
+      ap (λ (n : ℕ). record { refusal = n; events = x .events; runs = x .runs; ended = false; sums = emptySums 0; soft = x .lent .soft; lent = x .lent .acc; acc = x .lent .acc }) z
+
+  idle-told : (s : System) → fedBy s d .events ≡ noEvents → fedBy s d .runs ≡ noRuns → fedBy s d .lent .soft ≡ soft → fedBy s d .lent .acc ≡ s .acc →
+      toldFeed s d ≡ toldNothing s d (toldFeed s d .refusal)
+  unfolding toldFeed toldNothing keptAcc handedAcc
+  idle-told s es rs so ac =
+      λ j. record { refusal = toldFeed s d .refusal; events = es j; runs = rs j; ended = false; sums = emptySums 0; soft = so j; lent = ac j; acc = ac j }
+
   own-feed : (s : System) → FeedIs s d
   unfolding afterFeed lentTo handedAcc handedStore keptAcc keptStore
   own-feed s =
@@ -315,7 +376,8 @@ module _ (b : Block) (soft : List ℤ) where
         within = rw e (w .most);
         after = w .after ∙ ap (λ (v : ℕ). afterCalls s (callsFrom d 0 v)) (sym e);
         silent = λ j k. subst (λ (v : ℕ). Silent soft (toldBy (afterCalls s (callsFrom d 0 j)) (callAt d v))) (zero-on j) (w .silent j (rw e at k));
-        last = λ j k. subst (λ (v : ℕ). Last (toldBy (afterCalls s (callsFrom d 0 j)) (callAt d v)) (fedBy s d)) (zero-on j) (w .last j (k ∙ e));
+        last = λ j k. (accepted-feed s d j k, fed-told s (accepted-feed s d j k) ∙ subst (λ (v : ℕ). toldOf (fedBy s d) ≡ toldBy (afterCalls s (callsFrom d 0 j)) (callAt d v)) (zero-on j) (w .last j (k ∙ e)));
+        none = λ z. let v = w .idle (sym e ∙ z) in (idle-told s (v .0) (v .1) (v .2) (v .3), none-after s d (w .after ∙ ap (λ (v : ℕ). afterCalls s (callsFrom d 0 v)) (sym e)) z);
         refused = refused-feed s d;
         first = first-feed s d;
       }
@@ -337,6 +399,10 @@ module _ (s : System) (d : Feed) (z : (ownAcc (d .accumulators) && ownStore (d .
   unfolding feedRefusal
   feed-1 = if-both (λ (n : ℕ). n ≡ 1) (eqb (symbolsOf (d .block)) 0) _ _ stands-1 symbol-1
 
+  pub refused-1 : toldFeed s d .refusal ≡ 1
+  unfolding toldFeed
+  refused-1 = feed-1
+
   wrong-fed : fedBy s d ≡ quietAt 0 (s .receiver) given
   unfolding feedOf if_then_else_
   wrong-fed = rw feed-1
@@ -351,15 +417,23 @@ module _ (s : System) (d : Feed) (z : (ownAcc (d .accumulators) && ownStore (d .
   same-store own = refl
   same-store (wrong store e) = refl
 
-  wrong-used : fedBy s d .used ≡ 0
+  pub wrong-used : fedBy s d .used ≡ 0
   unfolding quietAt
   wrong-used = ap (λ (x : Fed). x .used) wrong-fed
 
-  wrong-after : afterFeed s d ≡ s
+  pub wrong-after : afterFeed s d ≡ s
   unfolding afterFeed quietAt lentTo
   wrong-after =
       ap (λ (x : Fed). record { receiver = x .receiver; acc = keptAcc s (d .accumulators) (x .lent .acc); store = keptStore s (d .slots) (x .lent .store) }) wrong-fed
       ∙ ap₂ (λ (u : List ℕ) (v : List ℤ). record { receiver = s .receiver; acc = u; store = v }) (same-acc (d .accumulators)) (same-store (d .slots))
+
+  pub wrong-told : toldFeed s d ≡ toldNothing s d (toldFeed s d .refusal)
+  unfolding toldFeed toldNothing quietAt lentTo
+  wrong-told =
+      let n = toldFeed s d .refusal in
+      let a = d .accumulators in
+      ap (λ (x : Fed). record { refusal = n; events = x .events; runs = x .runs; ended = false; sums = emptySums 0; soft = x .lent .soft; lent = x .lent .acc; acc = keptAcc s a (x .lent .acc) }) wrong-fed
+      ∙ ap (λ (u : List ℕ). record { refusal = n; events = noEvents; runs = noRuns; ended = false; sums = emptySums 0; soft = d .soft; lent = handedAcc s a; acc = u }) (same-acc a)
 
   wrong-feed : FeedIs s d
   wrong-feed =
@@ -368,6 +442,7 @@ module _ (s : System) (d : Feed) (z : (ownAcc (d .accumulators) && ownStore (d .
         after = wrong-after ∙ no-calls;
         silent = λ j e. absurd (omega (arith, e, wrong-used));
         last = λ j e. absurd (omega (arith, e, wrong-used));
+        none = λ e. (wrong-told, wrong-after);
         refused = refused-feed s d;
         first = first-feed s d;
       }

@@ -23,4 +23,6 @@ pub mod Answers
 pub mod Softs
 pub mod Theorems
 pub mod Feeds
+pub mod FeedsAlike
+pub mod FeedsTold
 pub mod Items

@@ -45,13 +45,13 @@ not-there at (Head g) k p = p
 not-there at (Period q) k p = p
 not-there at (Lost to) k p = never k
 
-none-lost : (at : ℕ) (es : Events) → losesIn es ≡ false → Among (LostAt at) es → ⊥
+pub none-lost : (at : ℕ) (es : Events) → losesIn es ≡ false → Among (LostAt at) es → ⊥
 unfolding losesIn
 none-lost at es k (in-first p) = not-there at (es .first) (neither (isLost (es .first)) (isLost (es .second)) (neither (isLost (es .first) || isLost (es .second)) (isLost (es .third)) k .0) .0) p
 none-lost at es k (in-second p) = not-there at (es .second) (neither (isLost (es .first)) (isLost (es .second)) (neither (isLost (es .first) || isLost (es .second)) (isLost (es .third)) k .0) .1) p
 none-lost at es k (in-third p) = not-there at (es .third) (neither (isLost (es .first) || isLost (es .second)) (isLost (es .third)) k .1) p
 
-no-losses : losesIn noEvents ≡ false
+pub no-losses : losesIn noEvents ≡ false
 unfolding losesIn isLost noEvents
 no-losses = refl
 
@@ -112,7 +112,7 @@ idle-agree : (at : ℕ) (k : Kept) (a b : List ℤ) → length a ≡ 18592 → l
 unfolding started
 idle-agree at k a b ea eb = record { first = ea; second = eb; held = tt }
 
-begins-same : (at : ℕ) (k : Kept) (a b : List ℤ) → length a ≡ 18592 → length b ≡ 18592 → Same (begins at k a) (begins at k b)
+pub begins-same : (at : ℕ) (k : Kept) (a b : List ℤ) → length a ≡ 18592 → length b ≡ 18592 → Same (begins at k a) (begins at k b)
 unfolding begins
 begins-same at k a b ea eb = record { receivers = refl; accs = refl; stores = idle-agree at k a b ea eb }
 
@@ -129,22 +129,27 @@ module _ (s : System) (h : History) (t : Tied s h) where
         after-is s h t x soft f z ∙ lost-system s h t x soft (q .takes) (q .room) (k .1),
       )
 
+  -- what a losing call leaves is a receiver that begins with the kept values
+  pub lost-begins : (c : Call) → CallFits c → losesBy h c ≡ true →
+      (store : List ℤ) × (length store ≡ 18592) × (afterCall s c ≡ begins (nextIn h + 1) (keptAfter h c) store)
+  unfolding losesBy keptAfter
+  lost-begins (symbol x own own soft) f e = own-lost x soft f e
+  lost-begins (symbol x own (wrong sl d) soft) f e = absurd (never (sym e ∙ wrong-loses h x own (wrong sl d) soft (own-wrong sl d)))
+  lost-begins (symbol x (wrong al d) b soft) f e = absurd (never (sym e ∙ wrong-loses h x (wrong al d) b soft (wrong-any al d b)))
+  lost-begins (points bits ps q) f e = absurd (never (sym e))
+  lost-begins (taps ts frame) f e = absurd (never (sym e))
+  lost-begins (opens frame) f e = absurd (never (sym e))
+  lost-begins ends f e = absurd (never (sym e))
+  lost-begins (restarts at a) f e = absurd (never (sym e))
+
   like-new : (c : Call) → CallFits c → (rest : List Call) → losesBy h c ≡ true → (store : List ℤ) → length store ≡ 18592 →
       toldAll (afterCall s c) rest ≡ toldAll (begins (nextIn h + 1) (keptAfter h c) store) rest
-  unfolding losesBy keptAfter
-  like-new (symbol x own own soft) f rest e store k =
-      let w = own-lost x soft f e in
-      ap (λ (y : System). toldAll y rest) (w .2) ∙ same-all _ _ rest (begins-same (nextIn h + 1) (keptOver h x) (w .0) store (w .1) k)
-  like-new (symbol x own (wrong sl d) soft) f rest e store k = absurd (never (sym e ∙ wrong-loses h x own (wrong sl d) soft (own-wrong sl d)))
-  like-new (symbol x (wrong al d) b soft) f rest e store k = absurd (never (sym e ∙ wrong-loses h x (wrong al d) b soft (wrong-any al d b)))
-  like-new (points bits ps q) f rest e store k = absurd (never (sym e))
-  like-new (taps ts frame) f rest e store k = absurd (never (sym e))
-  like-new (opens frame) f rest e store k = absurd (never (sym e))
-  like-new ends f rest e store k = absurd (never (sym e))
-  like-new (restarts at a) f rest e store k = absurd (never (sym e))
+  like-new c f rest e store k =
+      let w = lost-begins c f e in
+      ap (λ (y : System). toldAll y rest) (w .2) ∙ same-all _ _ rest (begins-same (nextIn h + 1) (keptAfter h c) (w .0) store (w .1) k)
 
   -- ---- all of it
-  lost-told-by : (c : Call) → losesBy h c ≡ true → Among (LostAt (nextIn h + 1)) (eventsIn h c)
+  pub lost-told-by : (c : Call) → losesBy h c ≡ true → Among (LostAt (nextIn h + 1)) (eventsIn h c)
   unfolding losesBy
   lost-told-by (symbol x a b soft) e = symbol-told s h t x soft a b e
   lost-told-by (points bits ps q) e = absurd (never (sym e))

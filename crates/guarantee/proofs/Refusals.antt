@@ -58,7 +58,7 @@ module _ (s : System) (h : History) (t : Tied s h) (x : Input) (soft : List ℤ)
   past-by : past 9296 r x l ≡ leb (2 ^ 62) (nextIn h)
   past-by = past-is r x l (t .coherent) ∙ ap (leb (2 ^ 62)) (next-is s h t)
 
-  own-fit : storesFit l ≡ (true && true && leb 44880 (length soft))
+  pub own-fit : storesFit l ≡ (true && true && leb 44880 (length soft))
   unfolding storesFit
   own-fit = rw (eq-eqb (length (s .acc)) 9296 (acc-long s h t), eq-eqb (length (s .store)) 18592 (t .store))
 
