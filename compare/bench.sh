@@ -46,19 +46,17 @@ for function in cordic round_shift mag_approx cos_sin_round; do
     line $function $((rust - none)) $((ours - none)) 1000
 done
 
-# locked ENTRY SIDE: the instructions of four periods while locked, with what makes the stream
+# locked SIDE: the instructions of four periods while locked, with what makes the stream
 locked() {
-    echo $(($(instructions bench_sync "$1" "$2" 10) - $(instructions bench_sync "$1" "$2" 6)))
+    echo $(($(instructions bench_sync "$1" 10) - $(instructions bench_sync "$1" 6)))
 }
 
 echo
 printf '%-14s %9s %9s %6s\n' 'instructions' Rust port ratio
-for entry in feed feed_1000 feed_100 feed_10 feed_1 push; do
-    none=$(locked $entry none)
-    rust=$(locked $entry rust)
-    ours=$(locked $entry port)
-    line $entry $((rust - none)) $((ours - none)) $((4 * 9296))
-done
+none=$(locked none)
+rust=$(locked rust)
+ours=$(locked port)
+line push $((rust - none)) $((ours - none)) $((4 * 9296))
 
 echo
 printf '%-14s %9s %9s %6s\n' 'instructions' Rust port ratio

@@ -13,7 +13,7 @@ const SCALE: i64 = 81_722;
 const SIDES: [&str; 3] = ["none", "rust", "port"];
 
 extern "C" {
-    fn sv_bench_demap(
+    fn measure_demap(
         sy: *const i16,
         symbols: usize,
         points: *const i16,
@@ -51,7 +51,7 @@ fn port(input: &Input, out: &mut [i8]) {
     let (sy, points) = (input.symbols.as_flattened(), input.points.as_flattened());
     // SAFETY: slices by their pointers and lengths; the port writes out only.
     let refusal = unsafe {
-        sv_bench_demap(
+        measure_demap(
             sy.as_ptr(),
             sy.len(),
             points.as_ptr(),

@@ -39,10 +39,10 @@ struct CSolved {
 }
 
 extern "C" {
-    fn sv_bench_rows(taps: Line) -> Rows;
-    fn sv_bench_filter(rows: &Rows, ys: *const i16, numbers: usize, out: *mut i16, room: usize) -> u8;
-    fn sv_bench_train(ys: *const i16, numbers: usize, di: i16, dq: i16) -> CSums;
-    fn sv_bench_solve(sums: CSums) -> CSolved;
+    fn measure_rows(taps: Line) -> Rows;
+    fn measure_filter(rows: &Rows, ys: *const i16, numbers: usize, out: *mut i16, room: usize) -> u8;
+    fn measure_train(ys: *const i16, numbers: usize, di: i16, dq: i16) -> CSums;
+    fn measure_solve(sums: CSums) -> CSolved;
 }
 
 type Pair = [i16; 2];
@@ -139,15 +139,15 @@ fn port(input: &Input, entry: &str, n: usize) -> Vec<i64> {
             let line = Line { x: std::array::from_fn(|k| taps[k]) };
             let ys = input.symbols[..n].as_flattened();
             let mut out = vec![0; 2 * n];
-            let rows = unsafe { sv_bench_rows(line) };
-            let done = unsafe { sv_bench_filter(&rows, ys.as_ptr(), ys.len(), out.as_mut_ptr(), out.len()) };
+            let rows = unsafe { measure_rows(line) };
+            let done = unsafe { measure_filter(&rows, ys.as_ptr(), ys.len(), out.as_mut_ptr(), out.len()) };
             assert_eq!(done, 1);
             out[..10].fill(0);
             out.iter().map(|&v| i64::from(v)).collect()
         }
         "train" => {
             let ys = input.symbols[..n].as_flattened();
-            let s = unsafe { sv_bench_train(ys.as_ptr(), ys.len(), REFERENCE[0], REFERENCE[1]) };
+            let s = unsafe { measure_train(ys.as_ptr(), ys.len(), REFERENCE[0], REFERENCE[1]) };
             assert_eq!(s.count as usize, n);
             s.r.iter().chain(&s.p).copied().collect()
         }
@@ -155,7 +155,7 @@ fn port(input: &Input, entry: &str, n: usize) -> Vec<i64> {
             let sums = input.c_sums();
             let mut taps = [0; 22];
             for _ in 0..n {
-                let solved = unsafe { sv_bench_solve(black_box(sums)) };
+                let solved = unsafe { measure_solve(black_box(sums)) };
                 assert_eq!(solved.refusal, 0);
                 taps = solved.taps;
             }

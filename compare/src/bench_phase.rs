@@ -15,7 +15,7 @@ const ENTRIES: [&str; 2] = ["rotate", "correct"];
 const SIDES: [&str; 3] = ["none", "rust", "port"];
 
 extern "C" {
-    fn sv_bench_rotate(
+    fn measure_rotate(
         freq: i32,
         xs: *const i8,
         symbols: usize,
@@ -24,7 +24,7 @@ extern "C" {
         out: *mut i16,
         places: usize,
     ) -> u32;
-    fn sv_bench_correct(
+    fn measure_correct(
         theta: u32,
         amp: i64,
         next: u32,
@@ -84,7 +84,7 @@ fn rust_rotate(xs: &[i8], out: &mut [i16]) -> u32 {
 fn port_rotate(input: &Input, out: &mut [i16]) -> u32 {
     let (xs, table) = (&input.bytes, &input.table);
     // SAFETY: slices by their pointers and lengths; the port writes out only.
-    unsafe { sv_bench_rotate(STEP, xs.as_ptr(), xs.len(), table.as_ptr(), table.len(), out.as_mut_ptr(), out.len()) }
+    unsafe { measure_rotate(STEP, xs.as_ptr(), xs.len(), table.as_ptr(), table.len(), out.as_mut_ptr(), out.len()) }
 }
 
 struct Places {
@@ -104,7 +104,7 @@ fn port_correct(input: &Input, to: &mut Places) {
     let (table, store) = (&input.table, &input.store);
     // SAFETY: slices by their pointers and lengths; the port writes the places only.
     let refusal = unsafe {
-        sv_bench_correct(
+        measure_correct(
             a.theta,
             a.amp,
             b.theta,

@@ -67,8 +67,8 @@ macro_rules! entry {
     };
 }
 
-entry!(sv_bench_receive, calls: u32);
-entry!(sv_bench_symbols);
+entry!(measure_receive, calls: u32);
+entry!(measure_symbols);
 
 fn flat(word: u32) -> [i8; 48] {
     let pairs = word_symbols(word);
@@ -225,9 +225,9 @@ fn port(input: &Input, entry: &str) -> Vec<i8> {
     // SAFETY: slices by their pointers and lengths; the port writes the three stores only.
     let got = unsafe {
         match entry {
-            "feed" => received!(sv_bench_receive, calls(b.len() / 2 / SLOT)),
-            "empty" => received!(sv_bench_receive, calls(b.len() / 2 / SLOT) + EMPTY),
-            _ => received!(sv_bench_symbols),
+            "feed" => received!(measure_receive, calls(b.len() / 2 / SLOT)),
+            "empty" => received!(measure_receive, calls(b.len() / 2 / SLOT) + EMPTY),
+            _ => received!(measure_symbols),
         }
     };
     assert!(got.refusal == 0 && got.taken == b.len() / 2, "{got:?}");

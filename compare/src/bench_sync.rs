@@ -1,5 +1,5 @@
-//! bench_sync time: nanoseconds a symbol of a locked slot sync, the Rust's `push` beside the port's entries.
-//! bench_sync count ENTRY SIDE PERIODS: one run over so many periods, for an instruction counter; SIDE none makes the
+//! bench_sync time: nanoseconds a symbol of a locked slot sync, the Rust's `push` beside the port's.
+//! bench_sync count SIDE PERIODS: one run over so many periods, for an instruction counter; SIDE none makes the
 //! same stream without a call, to be subtracted, and a run over LEAD periods is to be subtracted from a longer one.
 
 use cases::inputs::Random;
@@ -34,32 +34,8 @@ struct Streamed {
 }
 
 extern "C" {
-    fn sv_bench_feed(
-        sy: *const i16,
-        len: usize,
-        words: Words,
-        size: u32,
-        calls: u32,
-        acc: *mut u32,
-        accs: usize,
-    ) -> Streamed;
-    fn sv_bench_push(sy: *const i16, len: usize, words: Words, acc: *mut u32, accs: usize) -> Streamed;
+    fn measure_push(sy: *const i16, len: usize, words: Words, acc: *mut u32, accs: usize) -> Streamed;
 }
-
-struct Entry {
-    name: &'static str,
-    /// Symbols handed to a call; none is the single entry.
-    size: Option<usize>,
-}
-
-const ENTRIES: [Entry; 6] = [
-    Entry { name: "feed", size: Some(LONG * PERIOD) },
-    Entry { name: "feed_1000", size: Some(1_000) },
-    Entry { name: "feed_100", size: Some(100) },
-    Entry { name: "feed_10", size: Some(10) },
-    Entry { name: "feed_1", size: Some(1) },
-    Entry { name: "push", size: None },
-];
 
 fn flat(word: u32) -> Word {
     let pairs = word_symbols(word);
@@ -75,24 +51,6 @@ fn stream(words: &Words, periods: usize) -> Vec<i16> {
         slot[2 * OFFSET..2 * OFFSET + 48].copy_from_slice(&word.map(|x| 1_000 * i16::from(x)));
     }
     all
-}
-
-/// The calls in which the stream is taken, each of at most so many symbols: how many.
-fn calls(symbols: usize, size: usize) -> u32 {
-    let (mut done, mut calls) = (0, 0);
-    while done < symbols {
-        let reach = if done < 23 {
-            1
-        } else {
-            let place = (done - 23) % PERIOD;
-            let locked = done >= 23 + 4 * PERIOD;
-            let loud = if locked && place <= OFFSET { OFFSET } else { PERIOD - 1 };
-            loud - place + 1
-        };
-        done += reach.min(size).min(symbols - done);
-        calls += 1;
-    }
-    calls
 }
 
 #[inline(never)]
@@ -111,32 +69,13 @@ fn rust(stream: &[i16]) -> u32 {
     sync.last_corr.2
 }
 
-impl Entry {
-    fn calls(&self, symbols: usize) -> u32 {
-        self.size.map_or(0, |size| calls(symbols, size))
-    }
-
-    fn streamed(&self, words: Words, stream: &[i16], calls: u32) -> Streamed {
-        let mut acc = [0u32; PERIOD];
-        let (sy, len, to, accs) = (stream.as_ptr(), stream.len(), acc.as_mut_ptr(), acc.len());
-        // SAFETY: slices by their pointers and lengths; the port writes the accumulators only.
-        match self.size {
-            Some(size) => unsafe { sv_bench_feed(sy, len, words, size as u32, calls, to, accs) },
-            None => unsafe { sv_bench_push(sy, len, words, to, accs) },
-        }
-    }
-
-    /// The accumulator at the last position.
-    fn port(&self, words: Words, stream: &[i16], calls: u32) -> u32 {
-        let r = self.streamed(words, stream, calls);
-        assert!(r.refusal == 0 && 2 * r.taken == stream.len(), "{}: {r:?} of {}", self.name, stream.len() / 2);
-        r.level
-    }
-
-    /// One call less does not take the stream.
-    fn needs(&self, words: Words, stream: &[i16], calls: u32) -> bool {
-        self.size.is_none() || 2 * self.streamed(words, stream, calls - 1).taken < stream.len()
-    }
+/// The accumulator at the last position.
+fn port(words: Words, stream: &[i16]) -> u32 {
+    let mut acc = [0u32; PERIOD];
+    // SAFETY: slices by their pointers and lengths; the port writes the accumulators only.
+    let r = unsafe { measure_push(stream.as_ptr(), stream.len(), words, acc.as_mut_ptr(), acc.len()) };
+    assert!(r.refusal == 0 && 2 * r.taken == stream.len(), "{r:?} of {}", stream.len() / 2);
+    r.level
 }
 
 fn locked(stream: &[i16]) -> bool {
@@ -159,42 +98,32 @@ fn time(words: Words) {
     let lead = &long[..2 * LEAD * PERIOD];
     assert!(locked(&long) && locked(lead), "the Rust is not locked");
     println!("{:14} {:>9} {:>9} {:>6}", "ns a symbol", "Rust", "port", "ratio");
-    for entry in &ENTRIES {
-        let [many, few] = [&long[..], lead].map(|s| entry.calls(s.len() / 2));
-        assert_eq!(rust(&long), entry.port(words, &long, many), "{}: the last accumulators differ", entry.name);
-        assert!(entry.needs(words, &long, many), "{}: fewer calls than {many}", entry.name);
-        let mut least = [f64::MAX; 4];
-        for _ in 0..60 {
-            let taken = [
-                ns(rust, &long),
-                ns(rust, lead),
-                ns(|s| entry.port(words, s, many), &long),
-                ns(|s| entry.port(words, s, few), lead),
-            ];
-            least = std::array::from_fn(|k| least[k].min(taken[k]));
-        }
-        let symbols = ((LONG - LEAD) * PERIOD) as f64;
-        let [rust, port] = [(least[0] - least[1]) / symbols, (least[2] - least[3]) / symbols];
-        println!("{:14} {rust:9.2} {port:9.2} {:6.2}", entry.name, port / rust);
+    assert_eq!(rust(&long), port(words, &long), "the last accumulators differ");
+    let mut least = [f64::MAX; 4];
+    for _ in 0..60 {
+        let taken = [ns(rust, &long), ns(rust, lead), ns(|s| port(words, s), &long), ns(|s| port(words, s), lead)];
+        least = std::array::from_fn(|k| least[k].min(taken[k]));
     }
+    let symbols = ((LONG - LEAD) * PERIOD) as f64;
+    let [rust, port] = [(least[0] - least[1]) / symbols, (least[2] - least[3]) / symbols];
+    println!("{:14} {rust:9.2} {port:9.2} {:6.2}", "push", port / rust);
 }
 
-fn count(words: Words, name: &str, side: &str, periods: &str) {
-    let (Some(entry), Ok(periods)) = (ENTRIES.iter().find(|e| e.name == name), periods.parse()) else { usage() };
+fn count(words: Words, side: &str, periods: &str) {
+    let Ok(periods) = periods.parse() else { usage() };
     if !SIDES.contains(&side) {
         usage()
     }
     let stream = stream(&words, periods);
-    let calls = black_box(entry.calls(stream.len() / 2));
     black_box(match side {
         "rust" => rust(black_box(&stream)),
-        "port" => entry.port(words, black_box(&stream), calls),
+        "port" => port(words, black_box(&stream)),
         _ => 0,
     });
 }
 
 fn usage() -> ! {
-    eprintln!("usage: bench_sync time | bench_sync count ENTRY none|rust|port PERIODS");
+    eprintln!("usage: bench_sync time | bench_sync count none|rust|port PERIODS");
     std::process::exit(2)
 }
 
@@ -203,7 +132,7 @@ fn main() {
     let given: Vec<String> = std::env::args().skip(1).collect();
     match given.iter().map(String::as_str).collect::<Vec<_>>()[..] {
         ["time"] => time(words),
-        ["count", name, side, periods] => count(words, name, side, periods),
+        ["count", side, periods] => count(words, side, periods),
         _ => usage(),
     }
 }

@@ -1,11 +1,11 @@
-// What compare/src/bench_demap.rs measures: a block of symbols through the demapper, as a C function. Nothing else calls it.
+// What compare/src/bench_demap.rs measures: a block of symbols through the demapper, as a C function. It is no entry (docs/DECISIONS.md, F.19).
 ghost use mathlib.Core.Path.{_≡_};
 ghost use Prim.Native.Nat.{_/_};
 ghost use lib.ListN.{length};
 ghost use Rattle.demap.specs.Answers.{blockRefusal, blockBuffer};
 
 #[no_mangle]
-pub extern "C" fn sv_bench_demap(
+pub extern "C" fn measure_demap(
     sy: &[i16],
     points: &[i16],
     bits: usize,

@@ -1,5 +1,5 @@
 // What compare/src/bench_eq.rs measures: a block of symbols through the filter, a training at each of them, and a solve, as C functions.
-// Nothing else calls them.
+// They are no entries (docs/DECISIONS.md, F.19).
 use sums::Sums;
 ghost use mathlib.Core.Path.{_≡_};
 ghost use Prim.Native.Nat.{_/_, _≤_};
@@ -51,7 +51,7 @@ fn filter_all(rows: &[i16; 96], line: &mut [i16; 22], ys: &[i16], out: &mut [i16
 
 // The rows of taps.
 #[no_mangle]
-pub extern "C" fn sv_bench_rows(taps: Line) -> Rows
+pub extern "C" fn measure_rows(taps: Line) -> Rows
     ensures { λ r. ⌜ r .x ≡ rowsOf (taps .x) ⌝ }
 {
     let t = taps.x;
@@ -79,7 +79,7 @@ fn all_in_byte(rows: &[i16; 96]) -> bool
 
 // The symbols of ys through an empty line with the rows of taps, into out: 1; 0 and nothing done where the rows are none, or out is shorter.
 #[no_mangle]
-pub extern "C" fn sv_bench_filter(rows: &[i16; 96], ys: &[i16], out: &mut [i16]) -> u8
+pub extern "C" fn measure_filter(rows: &[i16; 96], ys: &[i16], out: &mut [i16]) -> u8
     ensures { λ r. ⌜ (r ≡ filteredCode (now (rows .entry)) (now (ys .entry)) (now (out .entry))) × (now (out .exit) ≡ filteredOut (now (rows .entry)) (now (ys .entry)) (now (out .entry))) ⌝ }
 {
     let mut line = [0i16; 22];
@@ -93,7 +93,7 @@ pub extern "C" fn sv_bench_filter(rows: &[i16; 96], ys: &[i16], out: &mut [i16])
 
 // A solve.
 #[no_mangle]
-pub extern "C" fn sv_bench_solve(c: CSums) -> CSolved
+pub extern "C" fn measure_solve(c: CSums) -> CSolved
     ensures { λ r. ⌜ r ≡ solvedOf c ⌝ }
 {
     let r = c.r;
@@ -130,7 +130,7 @@ fn train_all(ys: &[i16], di: i16, dq: i16) -> Sums
 
 // The same for C; of more symbols than there may be trainings, none.
 #[no_mangle]
-pub extern "C" fn sv_bench_train(ys: &[i16], di: i16, dq: i16) -> CSums
+pub extern "C" fn measure_train(ys: &[i16], di: i16, dq: i16) -> CSums
     ensures { λ r. ⌜ r ≡ trainedC (now (ys .entry)) di dq ⌝ }
 {
     if ys.len() / 2 <= 4194304 {

@@ -1,4 +1,4 @@
-// What compare/src/bench_phase.rs measures: symbols rotated in a block, and a slot corrected, as C functions. Nothing else calls them.
+// What compare/src/bench_phase.rs measures: symbols rotated in a block, and a slot corrected, as C functions. They are no entries (docs/DECISIONS.md, F.19).
 use carrier::Nco;
 use phase::Due;
 use phase::Held;
@@ -38,7 +38,7 @@ fn rotate_all(n: Nco, xs: &[i8], table: &[i16], out: &mut [i16]) -> Nco
 // A new carrier with a step rotates the symbols of xs into out, which is as long: the phase after them, and 0 and nothing done where the
 // lengths are others.
 #[no_mangle]
-pub extern "C" fn sv_bench_rotate(freq: i32, xs: &[i8], table: &[i16], out: &mut [i16]) -> u32
+pub extern "C" fn measure_rotate(freq: i32, xs: &[i8], table: &[i16], out: &mut [i16]) -> u32
     ensures { λ r. ⌜ (r ≡ rotatedPhase freq (now (xs .entry)) (now (table .entry)) (now (out .entry))) × (now (out .exit) ≡ rotatedOut freq (now (xs .entry)) (now (table .entry)) (now (out .entry))) ⌝ }
 {
     if (table.len() == 1024) & (xs.len() <= out.len()) {
@@ -110,7 +110,7 @@ fn due(theta: u32, amp: i64, next: u32, last: i64) -> Due
 
 // A slot between heads of these angles and magnitudes, corrected into places of its length: 0, or why not; 1 where a length is another.
 #[no_mangle]
-pub extern "C" fn sv_bench_correct(
+pub extern "C" fn measure_correct(
     theta: u32,
     amp: i64,
     next: u32,

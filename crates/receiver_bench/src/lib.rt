@@ -1,4 +1,4 @@
-// What compare/src/bench_receiver.rs measures: a stream through `feed` and through `symbol` of a new receiver, as C functions. Nothing else calls them.
+// What compare/src/bench_receiver.rs measures: a stream through `feed` and through `symbol` of a new receiver, as C functions. They are no entries (docs/DECISIONS.md, F.19).
 use receiver::Receiver;
 use receiver_feed::Fed;
 ghost use mathlib.Core.Path.{_≡_};
@@ -43,7 +43,7 @@ fn turn(
 
 // A new receiver with this constellation takes a stream in so many calls of `feed`.
 #[no_mangle]
-pub extern "C" fn sv_bench_receive(
+pub extern "C" fn measure_receive(
     bytes: &[i8],
     words: Words,
     table: &[i16],
@@ -80,7 +80,7 @@ pub extern "C" fn sv_bench_receive(
 
 // .. symbol by symbol.
 #[no_mangle]
-pub extern "C" fn sv_bench_symbols(
+pub extern "C" fn measure_symbols(
     bytes: &[i8],
     words: Words,
     table: &[i16],

@@ -27,7 +27,7 @@ use Rattle.sync_step.specs.Events.{eventOf, headsOf, isNothing, noEvents}
 use Rattle.sync_step.specs.Step.{afterOf, keptOf, placeOf, stepOf}
 use Rattle.sync.specs.Sync.{keptWindow, storedOf, symbolOf, windowAfter}
 use Rattle.sync_block.specs.Quiet.{Ahead, Rolled, passedRun, rollOne, rolled}
-use Rattle.sync_block.specs.Block.{reachOf}
+use Rattle.sync_block.specs.Reach.{reachOf}
 use Rattle.sync_step.proofs.Laws.{run-ready}
 use Rattle.receiver_bounds.proofs.Ready.{run-wide}
 use Rattle.sync_block.proofs.Laws.{ahead, bothAt, levelAt, place-on, silent, symbol-quiet}

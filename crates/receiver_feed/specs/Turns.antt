@@ -9,7 +9,7 @@ use lib.ListN.{length}
 use Rattle.laws.specs.Choice.{if_then_else_}
 use Rattle.sync_corr.specs.Correlate.{onesOf}
 use Rattle.sync_step.specs.Events.{noEvents}
-use Rattle.sync_block.specs.Block.{reachOf}
+use Rattle.sync_block.specs.Reach.{reachOf}
 use Rattle.receiver.specs.declared.Receiver.{Receiver}
 use Rattle.receiver.specs.declared.Answer.{Answer}
 use Rattle.receiver.specs.Symbol.{Lent, nextOf}

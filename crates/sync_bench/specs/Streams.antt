@@ -1,12 +1,11 @@
--- Calls one after another on a new sync at position 0.
-use Prim.Native.Nat.{ℕ, zero, suc, _+_, _-_, _*_, _/_, min}
+-- Symbols one after another on a new sync at position 0.
+use Prim.Native.Nat.{ℕ, zero, suc, _+_, _*_, _/_}
 use mathlib.Core.List.{List}
 use lib.IntN.{ℤ}
-use lib.ListN.{length, take, drop}
+use lib.ListN.{length}
 use Rattle.sync_corr.specs.Correlate.{at}
 use Rattle.sync.specs.declared.SlotSync.{SlotSync}
 use Rattle.sync.specs.Answers.{newAnswer, newAcc, pushAnswer, pushAcc}
-use Rattle.sync_block.specs.Block.{feedAnswer, feedAcc}
 use Rattle.sync_bench.specs.declared.Streamed.{Streamed}
 
 -- a sync with its accumulators, the symbols taken, the last accumulator and refusal
@@ -26,28 +25,6 @@ newFlow acc = flow (newAnswer 0 acc .sync) 0 0 (newAnswer 0 acc .refusal) (newAc
 abbrev pub streamed : Flow → Streamed
 streamed x = record { taken = x .taken; level = x .level; refusal = x .refusal }
 
--- ---- by blocks
--- at most size symbols of a stream, from symbol k on
-unfoldable pub partOf : List ℤ → ℕ → ℕ → List ℤ
-partOf sy k size = take (min (length sy - 2 * k) (2 * size)) (drop (2 * k) sy)
-
-unfoldable pub feedOne : List ℤ → List ℤ → List ℤ → ℕ → Flow → Flow
-feedOne sy f w size x =
-    let p = partOf sy (x .taken) size in
-    let a = feedAnswer (x .sync) p f w (x .acc) in
-    flow (a .sync) (x .taken + a .taken) (a .last .level) (a .refusal) (feedAcc (x .sync) p f w (x .acc))
-
-unfoldable pub feedMany : List ℤ → List ℤ → List ℤ → ℕ → ℕ → Flow → Flow
-feedMany sy f w size zero x = x
-feedMany sy f w size (suc j) x = feedOne sy f w size (feedMany sy f w size j x)
-
-unfoldable pub fedStream : List ℤ → List ℤ → List ℤ → ℕ → ℕ → List ℕ → Streamed
-fedStream sy f w size calls acc = streamed (feedMany sy f w size calls (newFlow acc))
-
-unfoldable pub fedAcc : List ℤ → List ℤ → List ℤ → ℕ → ℕ → List ℕ → List ℕ
-fedAcc sy f w size calls acc = feedMany sy f w size calls (newFlow acc) .acc
-
--- ---- symbol by symbol
 unfoldable pub pushOne : List ℤ → List ℤ → List ℤ → ℕ → Flow → Flow
 pushOne sy f w k x =
     let a = pushAnswer (x .sync) (at sy (2 * k)) (at sy (2 * k + 1)) f w (x .acc) in

@@ -7,7 +7,7 @@ ghost use Prim.Native.Nat.{_+_, _≤_, _<_, _^_};
 ghost use lib.ListN.{length};
 ghost use Rattle.sync_corr.specs.Rows.{Unit};
 ghost use Rattle.sync_step.specs.Ranges.{RunOk};
-ghost use Rattle.sync_block.specs.Block.{reachOf};
+ghost use Rattle.sync_block.specs.Reach.{reachOf};
 ghost use Rattle.sync_block.specs.Quiet.{rolled, rollOne};
 
 // One quiet symbol: it completes the window at position p and tells nothing.

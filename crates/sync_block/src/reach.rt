@@ -4,7 +4,7 @@ use sync_step::Run;
 ghost use mathlib.Core.Path.{_≡_};
 ghost use Prim.Native.Nat.{_≤_, _<_};
 ghost use Rattle.sync_step.specs.Ranges.{RunOk};
-ghost use Rattle.sync_block.specs.Block.{loudPlace, untilLoud, reachOf};
+ghost use Rattle.sync_block.specs.Reach.{loudPlace, untilLoud, reachOf};
 
 // The place of the next loud symbol's window, from place p on.
 fn loud_place(k: Lock, p: usize) -> usize

@@ -1,6 +1,6 @@
 use Prim.Native.Nat.{_<_, _≤_}
 use Rattle.laws.specs.Choice.{if-no, if-yes}
-use Rattle.sync_block.specs.Block.{loudPlace}
+use Rattle.sync_block.specs.Reach.{loudPlace}
 use Rattle.sync_step.specs.Step.{isLocked, offsetOf}
 use borrow.Author.Needs.{needs}
 use borrow.Author.Tests.{le-leb, lt-leb}

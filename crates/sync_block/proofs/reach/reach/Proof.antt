@@ -1,4 +1,4 @@
-use Rattle.sync_block.specs.Block.{reachOf}
+use Rattle.sync_block.specs.Reach.{reachOf}
 use borrow.Author.Needs.{needs}
 use native.Mathlib.Omega.{arith}
 use Rattle.sync_block.proofs.reach.reach.Statement.{statement}

@@ -1,5 +1,5 @@
 use Rattle.sync_block.proofs.Laws.{until-early, until-late}
-use Rattle.sync_block.specs.Block.{loudPlace}
+use Rattle.sync_block.specs.Reach.{loudPlace}
 use borrow.Author.Needs.{needs}
 use mathlib.Core.Path.{_≡_, sym}
 use native.Mathlib.Omega.{arith}

@@ -1,4 +1,4 @@
--- `phase_bench::sv_bench_correct` meets its contract. Assumes nothing.
+-- `phase_bench::measure_correct` meets its contract. Assumes nothing.
 use mathlib.Core.Path.{refl, sym, subst, _∙_}
 use borrow.Author.Needs.{needs}
 use denote.Ref.{now}
@@ -6,8 +6,8 @@ use mir.Facts.{toZ-ofZ}
 use Rattle.laws.specs.Choice.{if-yes, if-no}
 use Rattle.phase_bench.proofs.Laws.{lengths}
 use Rattle.phase_bench.specs.Slots.{places, DueOk, correctedCode, correctedPlaces}
-use Rattle.phase_bench.proofs.sv_bench_correct.Statement.{statement}
-use Rattle.phase_bench.proofs.sv_bench_correct.Tie as tie
+use Rattle.phase_bench.proofs.measure_correct.Statement.{statement}
+use Rattle.phase_bench.proofs.measure_correct.Tie as tie
 
 due-requires : tie.Need-due-requires
 due-requires c κs = search needs
@@ -57,8 +57,8 @@ returns-3 c =
     let e = sym (rw (toZ-ofZ (a .fits .amp), toZ-ofZ (a .fits .last)) at (c .before .before .before .before .due .ensures .0)) ∙ c .before .before .d .given .1 in
     rw e (sym (if-no _ _ _ (c .if1 .left)), sym (if-no _ _ _ (c .if1 .left)))
 
-pub sv-bench-correct-spec : {M : Type 1} → statement M
-sv-bench-correct-spec =
+pub measure-correct-spec : {M : Type 1} → statement M
+measure-correct-spec =
     tie.close
     (tie.spec
     due-requires

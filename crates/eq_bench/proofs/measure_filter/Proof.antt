@@ -1,4 +1,4 @@
--- `eq_bench::sv_bench_filter` meets its contract. Assumes nothing.
+-- `eq_bench::measure_filter` meets its contract. Assumes nothing.
 use mathlib.Core.Path.{refl, sym, ap, _∙_}
 use borrow.Author.Needs.{needs}
 use borrow.Author.Tests.{leb-true}
@@ -10,8 +10,8 @@ use Rattle.laws.proofs.Tests.{and-both}
 use Rattle.laws.specs.Choice.{if-yes, if-no}
 use Rattle.eq_bench.proofs.Laws.{rows-bytes}
 use Rattle.eq_bench.specs.Blocks.{Filtered, filteredCode, filteredOut}
-use Rattle.eq_bench.proofs.sv_bench_filter.Statement.{statement}
-use Rattle.eq_bench.proofs.sv_bench_filter.Tie as tie
+use Rattle.eq_bench.proofs.measure_filter.Statement.{statement}
+use Rattle.eq_bench.proofs.measure_filter.Tie as tie
 
 all-in-byte-requires : tie.Need-all-in-byte-requires
 all-in-byte-requires c κs = search needs
@@ -37,6 +37,6 @@ returns-2 : tie.Need-returns-2
 unfolding filteredCode filteredOut
 returns-2 c = let t = rw (c .before .all-in-byte .ensures) at (c .if1 .left) in (sym (if-no _ _ _ t), sym (if-no _ _ _ t))
 
-pub sv-bench-filter-spec : {M : Type 1} → statement M
-sv-bench-filter-spec =
+pub measure-filter-spec : {M : Type 1} → statement M
+measure-filter-spec =
     tie.close (tie.spec all-in-byte-requires filter-all-requires same-length returns returns-2)

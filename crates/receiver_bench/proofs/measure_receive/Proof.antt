@@ -11,8 +11,8 @@ use Rattle.receiver.specs.Feed.{Block}
 use Rattle.receiver_bench.specs.Streams.{Flow, feedMany, flow, lentOf, newFlow, received}
 use Rattle.receiver_bench.proofs.Laws.{feed-more, new-flow}
 use borrow.Author.Needs.{needs}
-use Rattle.receiver_bench.proofs.sv_bench_receive.Statement.{statement}
-use Rattle.receiver_bench.proofs.sv_bench_receive.Tie as tie
+use Rattle.receiver_bench.proofs.measure_receive.Statement.{statement}
+use Rattle.receiver_bench.proofs.measure_receive.Tie as tie
 
 abbrev Inv-loop : tie.InvT-loop
 Inv-loop bytes words table bits points k calls acc₀ store₀ soft₀ r₀ refusal₀ taken₀ j₀ acc store soft r refusal taken j =
@@ -81,8 +81,8 @@ returns c =
     let q = h .inv .2 ∙ ap (λ (x : Flow). feedMany b (h .j) x) z ∙ ap (λ (v : ℕ). feedMany b v w) e in
     (ap received q, ap (λ (x : Flow). x .lent) q)
 
-pub sv-bench-receive-spec : {M : Type 1} → statement M
-sv-bench-receive-spec =
+pub measure-receive-spec : {M : Type 1} → statement M
+measure-receive-spec =
     tie.close
     (tie.spec
     Inv-loop

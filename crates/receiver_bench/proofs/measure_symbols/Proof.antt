@@ -11,8 +11,8 @@ use Rattle.receiver.specs.Feed.{Block}
 use Rattle.receiver_bench.specs.Streams.{Flow, flow, lentOf, newFlow, received, symbolMany}
 use Rattle.receiver_bench.proofs.Laws.{symbol-more, new-flow}
 use borrow.Author.Needs.{needs}
-use Rattle.receiver_bench.proofs.sv_bench_symbols.Statement.{statement}
-use Rattle.receiver_bench.proofs.sv_bench_symbols.Tie as tie
+use Rattle.receiver_bench.proofs.measure_symbols.Statement.{statement}
+use Rattle.receiver_bench.proofs.measure_symbols.Tie as tie
 
 abbrev Inv-loop : tie.InvT-loop
 Inv-loop bytes table bits points k acc₀ store₀ soft₀ f s r₀ refusal₀ m i₀ acc store soft r refusal i =
@@ -93,8 +93,8 @@ returns c =
     let q = h .inv .1 ∙ ap (λ (x : Flow). symbolMany b (h .i) x) z ∙ ap (λ (v : ℕ). symbolMany b v w) e in
     (ap received q, ap (λ (x : Flow). x .lent) q)
 
-pub sv-bench-symbols-spec : {M : Type 1} → statement M
-sv-bench-symbols-spec =
+pub measure-symbols-spec : {M : Type 1} → statement M
+measure-symbols-spec =
     tie.close
     (tie.spec
     Inv-loop

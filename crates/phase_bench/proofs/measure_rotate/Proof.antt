@@ -1,4 +1,4 @@
--- `phase_bench::sv_bench_rotate` meets its contract. Assumes nothing.
+-- `phase_bench::measure_rotate` meets its contract. Assumes nothing.
 use mathlib.Core.Path.{_∙_, ap, sym}
 use borrow.Author.Needs.{needs}
 use borrow.Author.Tests.{eqb-true, leb-true}
@@ -9,10 +9,10 @@ use mir.Facts.{toZ-ofZ}
 use Rattle.laws.proofs.Tests.{and-both}
 use Rattle.laws.specs.Choice.{if-yes, if-no}
 use Rattle.phase_bench.specs.Blocks.{Turned, rotatedPhase, rotatedOut}
-use Rattle.phase_bench.proofs.sv_bench_rotate.Statement.{statement}
-use Rattle.phase_bench.proofs.sv_bench_rotate.Tie as tie
-use Rattle.phase_bench.proofs.sv_bench_rotate.Reads as reads
-use Rattle.phase_bench.proofs.sv_bench_rotate.Lts as lts
+use Rattle.phase_bench.proofs.measure_rotate.Statement.{statement}
+use Rattle.phase_bench.proofs.measure_rotate.Tie as tie
+use Rattle.phase_bench.proofs.measure_rotate.Reads as reads
+use Rattle.phase_bench.proofs.measure_rotate.Lts as lts
 use Rattle.carrier.proofs.ranged.started.Reads as started-reads
 use Rattle.phase_bench.proofs.rotate_all.Reads as rotate-all-reads
 
@@ -45,6 +45,6 @@ returns-2 : tie.Need-returns-2
 unfolding rotatedPhase rotatedOut
 returns-2 c = (sym (if-no _ _ _ (c .if1 .left)), sym (if-no _ _ _ (c .if1 .left)))
 
-pub sv-bench-rotate-spec : {M : Type 1} → statement M
-sv-bench-rotate-spec =
+pub measure-rotate-spec : {M : Type 1} → statement M
+measure-rotate-spec =
     tie.close (tie.spec started-requires rotate-all-requires same-length returns returns-2)

@@ -9,8 +9,8 @@ use lib.ListN.{length}
 use mathlib.Core.Path.{_∙_, _≡_, ap, refl}
 use mir.Facts.{toZ-ofZ}
 use native.Mathlib.Omega.{arith}
-use Rattle.sync_bench.proofs.sv_bench_push.Statement.{statement}
-use Rattle.sync_bench.proofs.sv_bench_push.Tie as tie
+use Rattle.sync_bench.proofs.measure_push.Statement.{statement}
+use Rattle.sync_bench.proofs.measure_push.Tie as tie
 
 abbrev Inv-loop : tie.InvT-loop
 Inv-loop sy acc₀ f w s₀ level₀ refusal₀ m k₀ acc s level refusal k =
@@ -82,8 +82,8 @@ returns c =
     let q : flow (h .s) (length (now (a .sy)) / 2) (h .level) (h .refusal) (h .acc) ≡ pushMany (now (a .sy)) (a .words .f) (a .words .w) (length (now (a .sy)) / 2) (flow (newAnswer 0 (now (a .acc)) .sync) 0 0 (newAnswer 0 (now (a .acc)) .refusal) (newAcc (now (a .acc)))) = rw (e, n .ensures .0, n .ensures .1) at (h .inv .1) in
     (ap streamed q, ap (λ (x : Flow). x .acc) q)
 
-pub sv-bench-push-spec : {M : Type 1} → statement M
-sv-bench-push-spec =
+pub measure-push-spec : {M : Type 1} → statement M
+measure-push-spec =
     tie.close
     (tie.spec
     Inv-loop

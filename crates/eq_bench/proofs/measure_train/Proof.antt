@@ -1,4 +1,4 @@
--- `eq_bench::sv_bench_train` meets its contract. Assumes nothing.
+-- `eq_bench::measure_train` meets its contract. Assumes nothing.
 use mathlib.Core.Path.{sym, _∙_, ap}
 use borrow.Author.Needs.{needs}
 use borrow.Author.Tests.{lt-leb, le-leb}
@@ -6,8 +6,8 @@ use mir.Facts.{toZ-ofZ}
 use Rattle.laws.specs.Choice.{if-yes, if-no}
 use Rattle.sums.specs.Sums.{emptySums}
 use Rattle.eq_bench.specs.Blocks.{acrossC, trainedC}
-use Rattle.eq_bench.proofs.sv_bench_train.Statement.{statement}
-use Rattle.eq_bench.proofs.sv_bench_train.Tie as tie
+use Rattle.eq_bench.proofs.measure_train.Statement.{statement}
+use Rattle.eq_bench.proofs.measure_train.Tie as tie
 
 train-all-requires : tie.Need-train-all-requires
 train-all-requires c κs = search needs
@@ -23,5 +23,5 @@ returns-2 : tie.Need-returns-2
 unfolding trainedC acrossC emptySums
 returns-2 c = sym (if-no _ _ _ (lt-leb _ _ (c .if1 .left)))
 
-pub sv-bench-train-spec : {M : Type 1} → statement M
-sv-bench-train-spec = tie.close (tie.spec train-all-requires returns returns-2)
+pub measure-train-spec : {M : Type 1} → statement M
+measure-train-spec = tie.close (tie.spec train-all-requires returns returns-2)
