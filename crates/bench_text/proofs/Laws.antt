@@ -4,8 +4,8 @@ use mathlib.Core.List.{List, [], _∷_, _++_}
 use mathlib.Core.Path.{_≡_, refl, sym, ap, ap₂, subst, _∙_}
 use Prim.Native.Nat.{ℕ, zero, suc, _+_, _-_, _*_, _/_, _%_, _^_, _≤_, _<_}
 use native.Mathlib.Omega.{arith}
-use borrow.Author.Tests.{lt-ltb, le-ltb, le-leb, lt-leb, ltb-true, leb-true, leb-false}
-use lib.Dec.{leb, ltb}
+use borrow.Author.Tests.{eq-eqb, le-leb}
+use lib.Dec.{eqb, ltb}
 use lib.IntN.{ℤ, pos, negsuc}
 use lib.ListN.{length, getD, take, drop, length-append}
 use Rattle.laws.proofs.Tests.{by-test, if-both, never}
@@ -17,9 +17,10 @@ use Rattle.sync_step.specs.declared.SyncStats.{SyncStats}
 use Rattle.sync_step.specs.declared.Event.{Event}
 use Rattle.sync_step.specs.declared.Event.the-variants.{Nothing, Head as HeadEvent, Period, Lost}
 use Rattle.lines.specs.Decimal.{digit, decimalIn, decimalOf, signedOf}
-use Rattle.lines.specs.Place.{written, Wrote, lineInto, lineEnd}
-use Rattle.lines.specs.Lines.{numberThen, periodLine, letterOf, slotText, headLine, lostLine, eventLine, valueText, valuesTo, valuesText, softLine, softEnd, softInto, endLine, refusedLine, bit}
-use Rattle.lines.proofs.Laws.{length-written, then as next-to}
+use Rattle.lines.specs.Place.{written, Wrote, roomRefusal, printedAt, printedInto}
+use Rattle.lines.specs.declared.Printed.{Printed}
+use Rattle.lines.specs.Lines.{numberThen, periodLine, letterOf, slotText, headLine, lostLine, eventLine, valueText, valuesTo, valuesText, softLine, softRefusal, endLine, refusedLine, bit}
+use Rattle.lines.proofs.Laws.{length-written, room-yes, soft-yes, then as next-to}
 
 -- ---- no line has more than 256 bytes
 cat : (a b : List ℕ) {m n : ℕ} → length a ≤ m → length b ≤ n → length (a ++ b) ≤ m + n
@@ -114,31 +115,37 @@ soft-short at j vs l =
     omega (arith, h, l)
 
 -- ---- a line where there is room
-pub line-wrote : (o : List ℕ) (at : ℕ) (t l : List ℕ) (r : ℕ) → length t ≤ 256 → at + 256 ≤ length o → (r ≡ lineEnd t at (length o)) × (l ≡ lineInto t at o) → Wrote o at t l r
-unfolding lineEnd lineInto
-line-wrote o at t l r s h e =
-    let y : leb (at + 256) (length o) ≡ true = le-leb (at + 256) (length o) h in
+printed-wrote : (o : List ℕ) (at : ℕ) (t l : List ℕ) (n : ℕ) (r : Printed) → n ≡ 0 → length t ≤ 256 → at + 256 ≤ length o → (r ≡ printedAt n t at) × (l ≡ printedInto n t at o) → Wrote o at t l (r .place)
+unfolding printedAt printedInto
+printed-wrote o at t l n r z s h e =
+    let y : eqb n 0 ≡ true = eq-eqb n 0 z in
     let w : l ≡ written o at t = e .1 ∙ if-yes _ _ _ y in
     let f : at + length t ≤ length o = omega (arith, s, h) in
-    record { fits = f; is = w; behind = e .0 ∙ if-yes _ _ _ y; long = ap length w ∙ length-written o at t f }
+    record { fits = f; is = w; behind = ap (λ (x : Printed). x .place) (e .0) ∙ if-yes _ _ _ y; long = ap length w ∙ length-written o at t f }
+
+-- what an entry of crate lines answers, which has no other refusal than 1
+abbrev pub Answers : List ℕ → ℕ → List ℕ → List ℕ → Printed → Type 0
+Answers o at t l r = (r ≡ printedAt (roomRefusal at (length o)) t at) × (l ≡ printedInto (roomRefusal at (length o)) t at o)
+
+pub line-wrote : (o : List ℕ) (at : ℕ) (t l : List ℕ) (r : Printed) → length t ≤ 256 → at + 256 ≤ length o → Answers o at t l r → Wrote o at t l (r .place)
+line-wrote o at t l r s h e = printed-wrote o at t l (roomRefusal at (length o)) r (room-yes at (length o) (le-leb (at + 256) (length o) h)) s h e
 
 -- the three events
 pub three-wrote :
-    (o l m n : List ℕ) (at a b r : ℕ) (x y z : List ℕ) → length x ≤ 256 → length y ≤ 256 → length z ≤ 256 → at + 768 ≤ length o →
-    (a ≡ lineEnd x at (length o)) × (l ≡ lineInto x at o) → (b ≡ lineEnd y a (length l)) × (m ≡ lineInto y a l) → (r ≡ lineEnd z b (length m)) × (n ≡ lineInto z b m) →
-    Wrote o at (x ++ y ++ z) n r
+    (o l m n : List ℕ) (at : ℕ) (a b r : Printed) (x y z : List ℕ) → length x ≤ 256 → length y ≤ 256 → length z ≤ 256 → at + 768 ≤ length o →
+    Answers o at x l a → Answers l (a .place) y m b → Answers m (b .place) z n r → Wrote o at (x ++ y ++ z) n (r .place)
 three-wrote o l m n at a b r x y z sx sy sz h ex ey ez =
-    let u : Wrote o at x l a = line-wrote o at x l a sx (omega (arith, h)) ex in
-    let v : Wrote l a y m b = line-wrote l a y m b sy (omega (arith, h, sx, u .behind, u .long)) ey in
-    let w : Wrote m b z n r = line-wrote m b z n r sz (omega (arith, h, sx, sy, u .behind, u .long, v .behind, v .long)) ez in
+    let u : Wrote o at x l (a .place) = line-wrote o at x l a sx (omega (arith, h)) ex in
+    let v : Wrote l (a .place) y m (b .place) = line-wrote l (a .place) y m b sy (omega (arith, h, sx, u .behind, u .long)) ey in
+    let w : Wrote m (b .place) z n (r .place) = line-wrote m (b .place) z n r sz (omega (arith, h, sx, sy, u .behind, u .long, v .behind, v .long)) ez in
     next-to (next-to u v) w
 
 -- a main symbol's line; vs are the values us, n is the position m
 pub soft-wrote :
-    (o : List ℕ) (at n m j : ℕ) (vs us : List ℤ) (l : List ℕ) (r : ℕ) → n ≡ m → vs ≡ us → length vs ≤ 5 → at + 256 ≤ length o →
-    (r ≡ softEnd n j vs at (length o)) × (l ≡ softInto n j vs at o) → Wrote o at (softLine m j us) l r
-unfolding softEnd softInto
+    (o : List ℕ) (at n m j : ℕ) (vs us : List ℤ) (l : List ℕ) (r : Printed) → n ≡ m → vs ≡ us → length vs ≤ 5 → at + 256 ≤ length o →
+    (r ≡ printedAt (softRefusal (length vs) at (length o)) (softLine n j vs) at) × (l ≡ printedInto (softRefusal (length vs) at (length o)) (softLine n j vs) at o) →
+    Wrote o at (softLine m j us) l (r .place)
 soft-wrote o at n m j vs us l r d e s h x =
-    let y = le-ltb 5 (length vs) s in
-    let w : Wrote o at (softLine n j vs) l r = line-wrote o at (softLine n j vs) l r (soft-short n j vs s) h (x .0 ∙ if-no _ _ _ y, x .1 ∙ if-no _ _ _ y) in
-    subst (λ (t : List ℕ). Wrote o at t l r) (ap₂ (λ (p : ℕ) (q : List ℤ). softLine p j q) d e) w
+    let y = soft-yes (length vs) at (length o) (le-leb (at + 256) (length o) h) s in
+    let w = printed-wrote o at (softLine n j vs) l (softRefusal (length vs) at (length o)) r y (soft-short n j vs s) h x in
+    subst (λ (t : List ℕ). Wrote o at t l (r .place)) (ap₂ (λ (p : ℕ) (q : List ℤ). softLine p j q) d e) w

@@ -1,15 +1,17 @@
--- Pages one after another give the lines of a run.
-use Prim.Native.Nat.{ℕ, zero, suc, _+_, _≤_, _<_}
+-- Pages one after another give the lines of a run, and the lines of an answer.
+use Prim.Native.Nat.{ℕ, zero, suc, _+_, _-_, _≤_, _<_}
 use mathlib.Core.Bool.{true}
 use mathlib.Core.List.{List, _++_}
 use mathlib.Core.Path.{_≡_}
 use lib.Dec.{leb}
 use lib.IntN.{ℤ}
-use lib.ListN.{length}
+use lib.ListN.{length, take}
 use Rattle.laws.specs.Choice.{if_then_else_}
+use Rattle.sync_step.specs.declared.Events.{Events}
 use Rattle.receiver_slot.specs.declared.AlignedRun.{AlignedRun}
-use Rattle.lines.specs.Place.{Wrote}
-use Rattle.bench_text.specs.Bench.{runText, runRest}
+use Rattle.receiver_slot.specs.declared.Runs.{Runs}
+use Rattle.lines.specs.Place.{Wrote, written}
+use Rattle.bench_text.specs.Bench.{runText, runRest, eventsText, linesOf}
 use Rattle.bench_text.specs.Pages.{Paged, lineOf, pageOf}
 
 -- how many of n symbols a page takes
@@ -32,3 +34,42 @@ PageClaim = (r : AlignedRun) (n : ℕ) (p : Paged) → p .place ≤ length (p .o
 -- the lines of k + m symbols are those of the first k, and those of m behind them
 abbrev pub SplitClaim : Type 0
 SplitClaim = (r : AlignedRun) (k m i : ℕ) (vs : List ℤ) → runText r (k + m) i vs ≡ runText r k i vs ++ runText r m (i + k) (runRest r k i vs)
+
+-- ---- page after page: what was sent, and the page that is not sent yet
+pub record Sent : Type 0 where
+  pub sent : List ℕ
+  pub page : Paged
+
+-- all that was told: what was sent, and what stands before the page's place
+abbrev pub toldBy : Sent → List ℕ
+toldBy s = s .sent ++ take (s .page .place) (s .page .out)
+
+-- a page is sent, and its buffer is filled anew from the front
+unfoldable pub turned : List ℕ → Paged → Sent
+turned sent p =
+    record { sent = sent ++ take (p .place) (p .out); page = record { next = p .next; rest = p .rest; place = 0; out = p .out } }
+
+-- a run in at most k pages: each is filled as far as there is room, and sent if symbols are left
+unfoldable pub pagesFrom : ℕ → AlignedRun → Sent → Sent
+pagesFrom zero r s = s
+pagesFrom (suc k) r s =
+    let p = pageOf r (r .count - s .page .next) (s .page) in
+    let on = pagesFrom k r (turned (s .sent) p) in
+    if leb (r .count) (p .next) then record { sent = s .sent; page = p } else on
+
+-- an answer, from a page's place on: the events, the run before, the run of this slot
+unfoldable pub runOn : ℕ → AlignedRun → List ℤ → List ℕ → ℕ → List ℕ → Sent
+runOn k r vs sent place out = pagesFrom k r (record { sent = sent; page = record { next = 0; rest = vs; place = place; out = out } })
+
+unfoldable pub answerOn : ℕ → Events → Runs → List ℤ → List ℕ → ℕ → List ℕ → Sent
+answerOn k es rs soft sent place out =
+    let t = eventsText es in
+    let x = runOn k (rs .tail) soft sent (place + length t) (written out place t) in
+    runOn k (rs .body) (x .page .rest) (x .sent) (x .page .place) (x .page .out)
+
+-- with room for three lines at the place, and a page more than either run has symbols, all that is told is what was, and the answer's lines behind it
+abbrev pub AnswerClaim : Type 0
+AnswerClaim =
+    (k : ℕ) (es : Events) (rs : Runs) (soft : List ℤ) (sent : List ℕ) (place : ℕ) (out : List ℕ) →
+    rs .tail .count < k → rs .body .count < k → place + 768 ≤ length out →
+    toldBy (answerOn k es rs soft sent place out) ≡ (sent ++ take place out) ++ linesOf es rs soft

@@ -19,8 +19,9 @@ pub fn events(es: Events, out: &mut [u8], place: usize) -> usize
     let y = es.second;
     let z = es.third;
     let a = lines::event(x, out, place);
-    let b = lines::event(y, out, a);
-    lines::event(z, out, b)
+    let b = lines::event(y, out, a.place);
+    let c = lines::event(z, out, b.place);
+    c.place
 }
 
 // The last line: the number of symbols, or of a refusal.
@@ -29,9 +30,11 @@ pub fn last(refusal: u8, symbols: u64, out: &mut [u8], place: usize) -> usize
     ensures { λ r. ⌜ Wrote (now (out .entry)) place (lastText refusal symbols) (now (out .exit)) r ⌝ }
 {
     if refusal == 0 {
-        lines::end(symbols, out, place)
+        let r = lines::end(symbols, out, place);
+        r.place
     } else {
-        lines::refused(refusal as u64, out, place)
+        let r = lines::refused(refusal as u64, out, place);
+        r.place
     }
 }
 
@@ -75,10 +78,11 @@ fn line(run: AlignedRun, p: Page, soft: &[i8], out: &mut [u8]) -> Page
     if prints(j, bits) {
         let e = lesser(v + (bits as usize), soft.len());
         let n = std::num::wrapping_add_u64(at, i as u64);
+        let r = lines::soft(n, j as u16, &soft[v..e], out, place);
         Page {
             i: i + 1,
             v: e,
-            place: lines::soft(n, j as u16, &soft[v..e], out, place),
+            place: r.place,
         }
     } else {
         Page {

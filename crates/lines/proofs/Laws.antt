@@ -6,8 +6,8 @@ use Prim.Native.Nat.{ℕ, zero, suc, _+_, _-_, _/_, _%_, _^_, _≤_, _<_}
 use native.Mathlib.Nat.{not-suc-le-zero, add-zero, pow-suc, one-le-pow, pow-le-pow-right}
 use native.Mathlib.Omega.{arith}
 use native.Mathlib.Numerals.{add-one}
-use borrow.Author.Tests.{lt-ltb, le-ltb, le-leb, lt-leb, ltb-true, leb-true, leb-false}
-use lib.Dec.{leb}
+use borrow.Author.Tests.{eq-eqb, lt-ltb, le-ltb, le-leb, lt-leb, ltb-true, leb-true, leb-false}
+use lib.Dec.{eqb, leb}
 use lib.IntN.{ℤ, pos, negsuc, natAbs}
 use lib.ListN.{length, getD, take, drop, set, length-append}
 use lib.Signed.{ltZ}
@@ -16,8 +16,9 @@ use Rattle.io.specs.Digits.{glyph, digits, Fewest}
 use Rattle.laws.proofs.Tests.{by-test, never}
 use Rattle.laws.specs.Choice.{if-yes, if-no}
 use Rattle.lines.specs.Decimal.{digit, decimalIn, decimalOf, signedOf}
-use Rattle.lines.specs.Place.{written, Wrote, lineInto, lineEnd}
-use Rattle.lines.specs.Lines.{valueText, valuesTo}
+use Rattle.lines.specs.Place.{written, Wrote, roomRefusal, printedAt, printedInto}
+use Rattle.lines.specs.declared.Printed.{Printed}
+use Rattle.lines.specs.Lines.{valueText, valuesTo, softRefusal}
 
 -- ---- text
 pasted : (o : List ℕ) (at : ℕ) (t : List ℕ) → written o at t ≡ paste o at t (length t)
@@ -110,13 +111,38 @@ few-digits n k h d =
 pub nothing : (o : List ℕ) (at : ℕ) → at ≤ length o → Wrote o at [] o at
 nothing o at h = copied o at [] o at (omega arith) (paste-zero o at []) (sym (add-zero at))
 
-pub with-room : (o : List ℕ) (at : ℕ) (t l : List ℕ) (r : ℕ) → leb (at + 256) (length o) ≡ true → Wrote o at t l r → (r ≡ lineEnd t at (length o)) × (l ≡ lineInto t at o)
-unfolding lineEnd lineInto
-with-room o at t l r e w = (w .behind ∙ sym (if-yes _ _ _ e), w .is ∙ sym (if-yes _ _ _ e))
+-- a text was written, and no refusal was due
+pub was-printed : (o : List ℕ) (at : ℕ) (t l : List ℕ) (r n : ℕ) → n ≡ 0 → Wrote o at t l r →
+    (record { refusal = 0; place = r } ≡ printedAt n t at) × (l ≡ printedInto n t at o)
+unfolding printedAt printedInto
+was-printed o at t l r n e w =
+    let z = eq-eqb n 0 e in
+    (ap₂ (λ (k p : ℕ). record { refusal = k; place = p }) (sym e) (w .behind ∙ sym (if-yes _ _ _ z)), w .is ∙ sym (if-yes _ _ _ z))
 
-pub no-room : (o : List ℕ) (at : ℕ) (t : List ℕ) → leb (at + 256) (length o) ≡ false → (at ≡ lineEnd t at (length o)) × (o ≡ lineInto t at o)
-unfolding lineEnd lineInto
-no-room o at t e = (sym (if-no _ _ _ e), sym (if-no _ _ _ e))
+-- nothing was written, and refusal k was due
+pub was-refused : (o : List ℕ) (at : ℕ) (t : List ℕ) (n k : ℕ) → n ≡ k → eqb k 0 ≡ false → (record { refusal = k; place = at } ≡ printedAt n t at) × (o ≡ printedInto n t at o)
+unfolding printedAt printedInto
+was-refused o at t n k e f = rw e (ap (λ (p : ℕ). record { refusal = k; place = p }) (sym (if-no _ _ _ f)), sym (if-no _ _ _ f))
+
+pub room-yes : (at n : ℕ) → leb (at + 256) n ≡ true → roomRefusal at n ≡ 0
+unfolding roomRefusal
+room-yes at n e = if-yes _ _ _ e
+
+pub room-no : (at n : ℕ) → leb (at + 256) n ≡ false → roomRefusal at n ≡ 1
+unfolding roomRefusal
+room-no at n e = if-no _ _ _ e
+
+pub soft-yes : (k at n : ℕ) → leb (at + 256) n ≡ true → k ≤ 5 → softRefusal k at n ≡ 0
+unfolding softRefusal
+soft-yes k at n e h = if-yes _ _ _ e ∙ if-no _ _ _ (le-ltb 5 k h)
+
+pub soft-many : (k at n : ℕ) → leb (at + 256) n ≡ true → 5 < k → softRefusal k at n ≡ 4
+unfolding softRefusal
+soft-many k at n e h = if-yes _ _ _ e ∙ if-yes _ _ _ (lt-ltb 5 k h)
+
+pub soft-no : (k at n : ℕ) → leb (at + 256) n ≡ false → softRefusal k at n ≡ 1
+unfolding softRefusal
+soft-no k at n e = if-no _ _ _ e
 
 -- ---- values
 pub value-neg : (v : ℤ) → ltZ v (pos 0) ≡ true → valueText v ≡ ((32 ∷ []) ++ (45 ∷ [])) ++ decimalOf (natAbs v)

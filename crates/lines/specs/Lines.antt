@@ -1,8 +1,8 @@
 -- The lines: document 01, "Capture". Letters are ASCII codes; 32 is a blank, 10 ends a line.
-use Prim.Native.Nat.{ℕ, zero, suc}
+use Prim.Native.Nat.{ℕ, zero, suc, _+_}
 use mathlib.Core.Bool.{Bool, true, false}
 use mathlib.Core.List.{List, [], _∷_, _++_}
-use lib.Dec.{ltb}
+use lib.Dec.{leb, ltb}
 use lib.IntN.{ℤ, pos}
 use lib.ListN.{length, getD}
 use Rattle.laws.specs.Choice.{if_then_else_}
@@ -15,7 +15,6 @@ use Rattle.sync_step.specs.declared.SyncStats.{SyncStats}
 use Rattle.sync_step.specs.declared.Event.{Event}
 use Rattle.sync_step.specs.declared.Event.the-variants.{Nothing, Head as HeadEvent, Period, Lost}
 use Rattle.lines.specs.Decimal.{decimalOf, signedOf}
-use Rattle.lines.specs.Place.{lineInto, lineEnd}
 
 -- a number and what follows it
 abbrev pub numberThen : ℕ → ℕ → List ℕ
@@ -72,12 +71,9 @@ valuesText vs = valuesTo vs (length vs) ++ (10 ∷ [])
 unfoldable pub softLine : ℕ → ℕ → List ℤ → List ℕ
 softLine at j vs = (115 ∷ 111 ∷ 102 ∷ 116 ∷ 32 ∷ []) ++ numberThen at 32 ++ decimalOf j ++ valuesText vs
 
--- in a buffer; a demapper gives at most five values, and of more nothing is written
-unfoldable pub softEnd : ℕ → ℕ → List ℤ → ℕ → ℕ → ℕ
-softEnd at j vs place room = if ltb 5 (length vs) then place else lineEnd (softLine at j vs) place room
-
-unfoldable pub softInto : ℕ → ℕ → List ℤ → ℕ → List ℕ → List ℕ
-softInto at j vs place out = if ltb 5 (length vs) then out else lineInto (softLine at j vs) place out
+-- in a buffer: 1 without room; 4, "bits outside 1..5", for more than five values
+unfoldable pub softRefusal : ℕ → ℕ → ℕ → ℕ
+softRefusal count place room = if leb (place + 256) room then if ltb 5 count then 4 else 0 else 1
 
 -- `end SYMBOLS` and `refused NUMBER`
 unfoldable pub endLine : ℕ → List ℕ

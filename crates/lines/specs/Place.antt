@@ -2,9 +2,10 @@
 use Prim.Native.Nat.{ℕ, _+_, _≤_}
 use mathlib.Core.List.{List, _++_}
 use mathlib.Core.Path.{_≡_}
-use lib.Dec.{leb}
+use lib.Dec.{eqb, leb}
 use lib.ListN.{length, take, drop}
 use Rattle.laws.specs.Choice.{if_then_else_}
+use Rattle.lines.specs.declared.Printed.{Printed}
 
 -- out with t from place `at` on
 unfoldable pub written : List ℕ → ℕ → List ℕ → List ℕ
@@ -17,10 +18,15 @@ pub record Wrote (out : List ℕ) (at : ℕ) (t : List ℕ) (after : List ℕ) (
   pub behind : r ≡ at + length t
   pub long : length after ≡ length out
 
--- a line, where there is room for 256 bytes, which is more than any has: the buffer after it, and the place behind it. Without that room
--- nothing is written
-unfoldable pub lineInto : List ℕ → ℕ → List ℕ → List ℕ
-lineInto t at out = if leb (at + 256) (length out) then written out at t else out
+-- ---- what an entry that writes a text answers, by its refusal
+-- "lent stores", 1: a buffer without room for 256 bytes from the place on, which is more than any line has
+unfoldable pub roomRefusal : ℕ → ℕ → ℕ
+roomRefusal at room = if leb (at + 256) room then 0 else 1
 
-unfoldable pub lineEnd : List ℕ → ℕ → ℕ → ℕ
-lineEnd t at room = if leb (at + 256) room then at + length t else at
+-- the place behind the text; where it is refused, the place as it was given
+unfoldable pub printedAt : ℕ → List ℕ → ℕ → Printed
+printedAt n t at = record { refusal = n; place = if eqb n 0 then at + length t else at }
+
+-- the buffer afterwards; where it is refused, "lent memory is unchanged"
+unfoldable pub printedInto : ℕ → List ℕ → ℕ → List ℕ → List ℕ
+printedInto n t at out = if eqb n 0 then written out at t else out

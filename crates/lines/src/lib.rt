@@ -10,9 +10,15 @@ ghost use mathlib.Core.Path.{_≡_};
 ghost use Prim.Native.Nat.{_+_, _≤_};
 ghost use lib.Dec.{leb};
 ghost use lib.ListN.{length};
-ghost use Rattle.lines.specs.Place.{Wrote, lineInto, lineEnd};
+ghost use Rattle.lines.specs.Place.{Wrote, roomRefusal, printedAt, printedInto};
 ghost use Rattle.lines.specs.Lines.{bit as Lines·bit};
-ghost use Rattle.lines.specs.Lines.{periodLine, letterOf, slotText, headLine, lostLine, eventLine, softLine, softEnd, softInto, endLine, refusedLine};
+ghost use Rattle.lines.specs.Lines.{periodLine, letterOf, slotText, headLine, lostLine, eventLine, softLine, softRefusal, endLine, refusedLine};
+
+// The place behind what was written; a refusal hands back the place that it was given, and nothing is written.
+pub struct Printed {
+    pub refusal: u8,
+    pub place: usize,
+}
 
 // LOCKED.
 fn bit(b: bool) -> u64
@@ -136,35 +142,53 @@ fn room(length: usize, at: usize) -> bool
     }
 }
 
-// An event's line from place `at` on; none for no event. Answers the place behind it.
-pub fn event(e: Event, out: &mut [u8], at: usize) -> usize
-    ensures { λ r. ⌜ (r ≡ lineEnd (eventLine e) at (length (now (out .entry)))) × (now (out .exit) ≡ lineInto (eventLine e) at (now (out .entry))) ⌝ }
+// An event's line from place `at` on; none for no event.
+pub fn event(e: Event, out: &mut [u8], at: usize) -> Printed
+    ensures { λ r. ⌜ (r ≡ printedAt (roomRefusal at (length (now (out .entry)))) (eventLine e) at) × (now (out .exit) ≡ printedInto (roomRefusal at (length (now (out .entry)))) (eventLine e) at (now (out .entry))) ⌝ }
 {
     if room(out.len(), at) {
-        told(out, at, e)
+        Printed {
+            refusal: 0,
+            place: told(out, at, e),
+        }
     } else {
-        at
+        Printed {
+            refusal: 1,
+            place: at,
+        }
     }
 }
 
 // The last line.
-pub fn end(symbols: u64, out: &mut [u8], at: usize) -> usize
-    ensures { λ r. ⌜ (r ≡ lineEnd (endLine symbols) at (length (now (out .entry)))) × (now (out .exit) ≡ lineInto (endLine symbols) at (now (out .entry))) ⌝ }
+pub fn end(symbols: u64, out: &mut [u8], at: usize) -> Printed
+    ensures { λ r. ⌜ (r ≡ printedAt (roomRefusal at (length (now (out .entry)))) (endLine symbols) at) × (now (out .exit) ≡ printedInto (roomRefusal at (length (now (out .entry)))) (endLine symbols) at (now (out .entry))) ⌝ }
 {
     if room(out.len(), at) {
-        ended(out, at, symbols)
+        Printed {
+            refusal: 0,
+            place: ended(out, at, symbols),
+        }
     } else {
-        at
+        Printed {
+            refusal: 1,
+            place: at,
+        }
     }
 }
 
-pub fn refused(n: u64, out: &mut [u8], at: usize) -> usize
-    ensures { λ r. ⌜ (r ≡ lineEnd (refusedLine n) at (length (now (out .entry)))) × (now (out .exit) ≡ lineInto (refusedLine n) at (now (out .entry))) ⌝ }
+pub fn refused(n: u64, out: &mut [u8], at: usize) -> Printed
+    ensures { λ r. ⌜ (r ≡ printedAt (roomRefusal at (length (now (out .entry)))) (refusedLine n) at) × (now (out .exit) ≡ printedInto (roomRefusal at (length (now (out .entry)))) (refusedLine n) at (now (out .entry))) ⌝ }
 {
     if room(out.len(), at) {
-        refusal(out, at, n)
+        Printed {
+            refusal: 0,
+            place: refusal(out, at, n),
+        }
     } else {
-        at
+        Printed {
+            refusal: 1,
+            place: at,
+        }
     }
 }
 
@@ -182,14 +206,25 @@ fn written(out: &mut [u8], place: usize, at: u64, j: u16, values: &[i8]) -> usiz
 }
 
 // The line of a main symbol's soft values, of which there are at most five.
-pub fn soft(at: u64, j: u16, values: &[i8], out: &mut [u8], place: usize) -> usize
-    ensures { λ r. ⌜ (r ≡ softEnd at j (now (values .entry)) place (length (now (out .entry)))) × (now (out .exit) ≡ softInto at j (now (values .entry)) place (now (out .entry))) ⌝ }
+pub fn soft(at: u64, j: u16, values: &[i8], out: &mut [u8], place: usize) -> Printed
+    ensures { λ r. ⌜ (r ≡ printedAt (softRefusal (length (now (values .entry))) place (length (now (out .entry)))) (softLine at j (now (values .entry))) place) × (now (out .exit) ≡ printedInto (softRefusal (length (now (values .entry))) place (length (now (out .entry)))) (softLine at j (now (values .entry))) place (now (out .entry))) ⌝ }
 {
-    if 5 < values.len() {
-        place
-    } else if room(out.len(), place) {
-        written(out, place, at, j, values)
+    if room(out.len(), place) {
+        if 5 < values.len() {
+            Printed {
+                refusal: 4,
+                place: place,
+            }
+        } else {
+            Printed {
+                refusal: 0,
+                place: written(out, place, at, j, values),
+            }
+        }
     } else {
-        place
+        Printed {
+            refusal: 1,
+            place: place,
+        }
     }
 }

@@ -1,12 +1,11 @@
 -- `lines::soft` meets its contract. Assumes nothing.
 use borrow.Author.Needs.{needs}
-use mathlib.Core.Path.{sym, _∙_}
+use mathlib.Core.Path.{refl, sym, _∙_}
 use Prim.Native.Nat.{_+_}
-use borrow.Author.Tests.{leb-true, lt-ltb, le-ltb}
+use borrow.Author.Tests.{leb-true}
 use lib.ListN.{length}
-use Rattle.laws.specs.Choice.{if-yes, if-no}
-use Rattle.lines.specs.Lines.{softLine, softEnd, softInto}
-use Rattle.lines.proofs.Laws.{with-room, no-room}
+use Rattle.lines.specs.Lines.{softLine}
+use Rattle.lines.proofs.Laws.{was-printed, was-refused, soft-yes, soft-many, soft-no}
 use Rattle.lines.proofs.soft.Statement.{statement}
 use Rattle.lines.proofs.soft.Tie as tie
 
@@ -16,31 +15,29 @@ room-requires c κs = search needs
 written-requires : tie.Need-written-requires
 written-requires c κs =
     let a = c .before .before .before .before .before .args in
-    (leb-true (a .place + 256) (length (a .out .now)) (sym (c .before .before .room .ensures) ∙ c .before .if2 .taken), c .before .before .before .if1 .left)
+    (leb-true (a .place + 256) (length (a .out .now)) (sym (c .before .before .before .room .ensures) ∙ c .before .before .if1 .taken), c .before .if2 .left)
 
 returns : tie.Need-returns
-unfolding softEnd softInto
-returns c = let t = lt-ltb 5 (length (c .before .before .args .values .now)) (c .if1 .taken) in (sym (if-yes _ _ _ t), sym (if-yes _ _ _ t))
+returns c =
+    let a = c .before .before .before .before .args in
+    let m = soft-many (length (a .values .now)) (a .place) (length (a .out .now)) (sym (c .before .before .room .ensures) ∙ c .before .if1 .taken) (c .if2 .taken) in
+    was-refused (a .out .now) (a .place) (softLine (a .at) (a .j) (a .values .now)) _ 4 m refl
 
 same-length : tie.Need-same-length
 same-length c = search needs
 
 returns-2 : tie.Need-returns-2
-unfolding softEnd softInto
 returns-2 c =
     let a = c .before .before .before .before .before .before .before .before .args in
-    let t = le-ltb 5 (length (a .values .now)) (c .before .before .before .before .before .before .if1 .left) in
-    let W = c .before .before .written in
-    let w = with-room (a .out .now) (a .place) (softLine (a .at) (a .j) (a .values .now)) (W .last .0) (W .result) (sym (c .before .before .before .before .before .room .ensures) ∙ c .before .before .before .before .if2 .taken) (W .ensures) in
-    (w .0 ∙ sym (if-no _ _ _ t), w .1 ∙ sym (if-no _ _ _ t))
+    let w = c .before .before .written in
+    let m = soft-yes (length (a .values .now)) (a .place) (length (a .out .now)) (sym (c .before .before .before .before .before .before .room .ensures) ∙ c .before .before .before .before .before .if1 .taken) (c .before .before .before .before .if2 .left) in
+    was-printed (a .out .now) (a .place) (softLine (a .at) (a .j) (a .values .now)) (w .last .0) (w .result) _ m (w .ensures)
 
 returns-3 : tie.Need-returns-3
-unfolding softEnd softInto
 returns-3 c =
-    let a = c .before .before .before .before .args in
-    let t = le-ltb 5 (length (a .values .now)) (c .before .before .if1 .left) in
-    let w = no-room (a .out .now) (a .place) (softLine (a .at) (a .j) (a .values .now)) (sym (c .before .room .ensures) ∙ c .if2 .left) in
-    (w .0 ∙ sym (if-no _ _ _ t), w .1 ∙ sym (if-no _ _ _ t))
+    let a = c .before .before .before .args in
+    let m = soft-no (length (a .values .now)) (a .place) (length (a .out .now)) (sym (c .before .room .ensures) ∙ c .if1 .left) in
+    was-refused (a .out .now) (a .place) (softLine (a .at) (a .j) (a .values .now)) _ 1 m refl
 
 pub soft-spec : {M : Type 1} → statement M
 soft-spec =

@@ -27,7 +27,7 @@ returns c =
     let a = c .before .before .before .before .before .before .args in
     let x = c .before .before .end in
     let w = line-wrote (a .out .now) (a .place) (endLine (a .symbols)) (x .last .1 .0) (x .result) (end-short (a .symbols)) (c .before .before .before .before .before .before .pre) (x .ensures) in
-    subst (λ (t : List ℕ). Wrote (a .out .now) (a .place) t (x .last .1 .0) (x .result)) (sym (if-yes _ _ _ (eq-eqb (a .refusal) 0 (c .before .before .before .before .if1 .taken)))) w
+    subst (λ (t : List ℕ). Wrote (a .out .now) (a .place) t (x .last .1 .0) (x .result .place)) (sym (if-yes _ _ _ (eq-eqb (a .refusal) 0 (c .before .before .before .before .if1 .taken)))) w
 
 same-length-2 : tie.Need-same-length-2
 same-length-2 c = search needs
@@ -38,7 +38,7 @@ returns-2 c =
     let a = c .before .before .before .before .before .before .args in
     let x = c .before .before .refused in
     let w = line-wrote (a .out .now) (a .place) (refusedLine (a .refusal)) (x .last .1 .0) (x .result) (refused-short (a .refusal)) (c .before .before .before .before .before .before .pre) (x .ensures) in
-    subst (λ (t : List ℕ). Wrote (a .out .now) (a .place) t (x .last .1 .0) (x .result)) (sym (if-no _ _ _ (ne-eqb (a .refusal) 0 (c .before .before .before .before .if1 .left)))) w
+    subst (λ (t : List ℕ). Wrote (a .out .now) (a .place) t (x .last .1 .0) (x .result .place)) (sym (if-no _ _ _ (ne-eqb (a .refusal) 0 (c .before .before .before .before .if1 .left)))) w
 
 pub last-spec : {M : Type 1} → statement M
 last-spec =

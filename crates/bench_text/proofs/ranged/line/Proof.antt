@@ -34,9 +34,6 @@ lesser-requires c κs = search needs
 wrapping-add-u64-requires : tie.Need-wrapping-add-u64-requires
 wrapping-add-u64-requires c κs = search needs
 
-add-t16 : tie.Need-add-t16
-add-t16 c = search needs
-
 cast-soft : tie.Need-cast-soft
 cast-soft c =
     let a = c .before .before .before .before .before .before .args in
@@ -55,8 +52,11 @@ part-soft-end c = search needs
 soft-requires : tie.Need-soft-requires
 soft-requires c κs = search needs
 
-add-t26 : tie.Need-add-t26
-add-t26 c = search needs
+add-t18 : tie.Need-add-t18
+add-t18 c = search needs
+
+add-t27 : tie.Need-add-t27
+add-t27 c = search needs
 
 same-length : tie.Need-same-length
 same-length c = search needs
@@ -74,7 +74,7 @@ returns c =
     let t = taken (a .soft .now) (a .p .v) (a .run .bits) (E .result) (g .1) (E .ensures) in
     let f = few (a .soft .now) (a .p .v) (a .run .bits) (E .result) (g .1) (E .ensures) (b .1) in
     let w = soft-wrote (a .out .now) (a .p .place) (W .result) ((a .run .at + a .p .i) % 2 ^ 64) j (take (E .result - a .p .v) (drop (a .p .v) (a .soft .now))) (take (a .run .bits) (drop (a .p .v) (a .soft .now))) (S .last .1 .1 .1 .0) (S .result) (W .ensures) t f (g .2) (S .ensures) in (
-      printed (a .run) (a .p) (a .soft .now) (a .out .now) (S .last .1 .1 .1 .0) (S .result) (E .result) y w (behind (a .soft .now) (a .p .v) (a .run .bits) (E .result) (g .1) (E .ensures)),
+      printed (a .run) (a .p) (a .soft .now) (a .out .now) (S .last .1 .1 .1 .0) (S .result .place) (E .result) y w (behind (a .soft .now) (a .p .v) (a .run .bits) (E .result) (g .1) (E .ensures)),
       refl,
       omega (arith, E .ensures, min-le-right (a .p .v + a .run .bits) (length (a .soft .now))),
     )
@@ -96,13 +96,13 @@ line-spec =
     add-lesser
     lesser-requires
     wrapping-add-u64-requires
-    add-t16
     cast-soft
     sub-soft
     part-soft-start
     part-soft-end
     soft-requires
-    add-t26
+    add-t18
+    add-t27
     same-length
     returns
     returns-2)
