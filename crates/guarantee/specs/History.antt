@@ -1,5 +1,5 @@
--- What happened, from the calls alone: no state of a receiver stands here. A history is that of the stretch that runs: since the new receiver, the
--- last loss or the last accepted restart.
+-- What happened, from the calls alone: types of a receiver's state stand here, but no receiver's state. A history is that of the stretch that runs: since
+-- the new receiver, the last loss or the last accepted restart.
 use Prim.Native.Nat.{ℕ, zero, suc, _+_, _-_, _^_}
 use mathlib.Core.Bool.{Bool, true, false, not, _&&_}
 use mathlib.Core.List.{List, [], _∷_, _++_}
