@@ -20,6 +20,7 @@ pub mod Quiet
 pub mod Locks
 pub mod Outs
 pub mod Answers
+pub mod Places
 pub mod Softs
 pub mod Theorems
 pub mod Feeds

@@ -51,23 +51,23 @@ run-is : (u : AlignedRun) {a j n b : ℕ} → u .at ≡ a → u .j ≡ j → u .
 run-is u p q r s = λ i. record { at = p i; j = q i; count = r i; bits = s i }
 
 -- a slot that adjoins, or the first, finds the alignment as it is
-no-gap-first : (b : Back) (at : ℕ) → Untouched b → joinedTo b at ≡ b
+pub no-gap-first : (b : Back) (at : ℕ) → Untouched b → joinedTo b at ≡ b
 unfolding joinedTo gapAt if_then_else_
 no-gap-first b at u = rw (u .last)
 
-no-gap-next : (b : Back) (at : ℕ) → Adjoins at b → joinedTo b at ≡ b
+pub no-gap-next : (b : Back) (at : ℕ) → Adjoins at b → joinedTo b at ≡ b
 unfolding joinedTo gapAt if_then_else_
 no-gap-next b at a = rw (a .last, eq-eqb (a .before + 1) at (a .next))
 
 module _ (r : Receiver) (x : Input) (l : Lent) (c : CoherentReceiver r) (w : WholeSlot) (e : heads 9296 r x l .due ≡ Slot w) where
-  few : r .back .metas .count ≤ 5
+  pub few : r .back .metas .count ≤ 5
   few = go (due-is r x l c w e .back)
     where
       go : Untouched (r .back) ⊎ Adjoins (w .head .at) (r .back) → r .back .metas .count ≤ 5
       go (inl u) = omega (arith, u .none)
       go (inr u) = omega (arith, u .five)
 
-  outs : RunsAre (r .points) (r .back) w (x .table) (l .store) (runs 9296 r x l)
+  pub outs : RunsAre (r .points) (r .back) w (x .table) (l .store) (runs 9296 r x l)
   unfolding runs aligned
   outs = rw (slot-is r x l c w e) (runs-are (r .points) (r .back) w (x .table) (l .store) (x .f) (x .s) few)
 
@@ -80,7 +80,7 @@ module _ (r : Receiver) (x : Input) (l : Lent) (c : CoherentReceiver r) (w : Who
   body-run q = run-is _ (outs .body-at ∙ omega (arith, q)) (outs .body-j) (outs .body-count) (outs .body-begins .bits-are)
 
   -- those that waited
-  first-run : Untouched (r .back) → runs 9296 r x l .tail ≡ noRun
+  pub first-run : Untouched (r .back) → runs 9296 r x l .tail ≡ noRun
   first-run u = outs .tail-none (outs .tail-count ∙ ap (λ (b : Back). b .metas .count) (no-gap-first (r .back) (w .head .at) u) ∙ u .none)
 
   next-run : begins-at → Adjoins (w .head .at) (r .back) → runs 9296 r x l .tail ≡ record { at = nextOf r - 23 - 9296 - 5; j = 9291; count = 5; bits = r .points .bits }
@@ -112,7 +112,7 @@ module _ (s : System) (h : History) (t : Tied s h) (x : Input) (soft : List ℤ)
   abbrev r₀ : Receiver
   r₀ = s .receiver
 
-  own-runs : symbolRefusal r₀ x l₀ ≡ 0 → toldBy s (symbol x own own soft) .runs ≡ runs 9296 r₀ x l₀
+  pub own-runs : symbolRefusal r₀ x l₀ ≡ 0 → toldBy s (symbol x own own soft) .runs ≡ runs 9296 r₀ x l₀
   unfolding toldBy lentTo handedAcc handedStore
   own-runs z = ap (λ (y : Answer). y .runs) (answer-is s h t x soft f z)
 

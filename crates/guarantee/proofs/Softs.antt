@@ -2,12 +2,14 @@
 use Prim.Native.Nat.{ℕ, _≤_}
 use Rattle.frame.specs.declared.Back.{Back}
 use Rattle.guarantee.proofs.Follow.{lent-is, own-wrong, says-1, wrong-any}
+use Rattle.guarantee.proofs.Outs.{own-runs}
+use Rattle.guarantee.proofs.Places.{all-placed}
 use Rattle.guarantee.proofs.Quiet.{one-not}
 use Rattle.guarantee.proofs.Refusals.{own-refusal}
 use Rattle.guarantee.proofs.Tied.{Tied}
 use Rattle.guarantee.specs.Calls.{Accumulators, Call, CallFits, InputFits, SlotStore, System, handedAcc, handedStore, lentTo, toldBy}
 use Rattle.guarantee.specs.Calls.{symbol, own, wrong}
-use Rattle.guarantee.specs.Demand.{SingleClaim, SoftBits}
+use Rattle.guarantee.specs.Demand.{SingleClaim, SoftBits, placesIn, placesOf}
 use Rattle.guarantee.specs.History.{History, refusalIn}
 use Rattle.phase.specs.declared.Due.{Due}
 use Rattle.phase.specs.declared.Due.the-variants.{Nothing as NoSlot, Slot}
@@ -19,12 +21,13 @@ use Rattle.receiver_slot.specs.Aligned.Between.{five, none}
 use Rattle.receiver_slot.specs.Slot.{alignedAll, dueSymbols, softAll, writtenOn}
 use Rattle.receiver.specs.Symbol.{Input, Lent, aligned, heads, lentAfter, slot, softAfter}
 use Rattle.receiver_slot.specs.declared.Points.{Points}
+use Rattle.receiver_slot.specs.declared.Runs.{Runs}
 use Rattle.receiver.specs.declared.Receiver.{Receiver}
 use Rattle.receiver_laws.proofs.Softs.{bit-true, softs-fit, softs-true}
 use Rattle.receiver_range.specs.Coherent.{Adjoins, BackFits, Untouched}
 use lib.IntN.{ℤ}
 use lib.ListN.{length}
-use mathlib.Core.List.{List}
+use mathlib.Core.List.{List, _++_}
 use mathlib.Core.Logic.{_⊎_, ⊎-elim}
 use mathlib.Core.Path.{_∙_, _≡_, ap, subst, sym}
 use native.Mathlib.Omega.{arith}
@@ -64,9 +67,17 @@ module _ (s : System) (h : History) (t : Tied s h) (x : Input) (soft : List ℤ)
   all-stand z =
       ap (λ (y : Lent). y .soft) (lent-is s h t x soft f z) ∙ ap (λ (p : Points). writtenOn (softAll p (aligned 9296 r x l)) soft) (t .points)
 
+  placed-by : symbolRefusal r x l ≡ 0 →
+      placesIn (aligned 9296 r x l) ≡ placesOf (toldBy s (symbol x own own soft) .runs .tail) ++ placesOf (toldBy s (symbol x own own soft) .runs .body)
+  placed-by z =
+      all-placed r x l (t .coherent)
+      ∙ ap (λ (u : Runs). placesOf (u .tail) ++ placesOf (u .body)) (sym (own-runs s h t x soft f z))
+
   own-softs : (rest : List Call) → refusalIn h (symbol x own own soft) ≡ 0 → SoftBits h s (symbol x own own soft) (toldBy s (symbol x own own soft)) rest x (lentTo s own own soft)
   unfolding toldBy lentTo handedAcc handedStore
-  own-softs rest e = record { stand = all-stand (own-refusal s h t x soft ∙ e); fit = all-fit; are-true = softs-true (h .points) (aligned 9296 r x l) }
+  own-softs rest e =
+      let z = own-refusal s h t x soft ∙ e in
+      record { placed = placed-by z; stand = all-stand z; fit = all-fit; are-true = softs-true (h .points) (aligned 9296 r x l) }
 
 pub soft-bits : (s : System) (h : History) → Tied s h → (c : Call) → CallFits c → (rest : List Call) → (x : Input) (a : Accumulators) (b : SlotStore) (soft : List ℤ) →
     c ≡ symbol x a b soft → refusalIn h c ≡ 0 → SoftBits h s c (toldBy s c) rest x (lentTo s a b soft)

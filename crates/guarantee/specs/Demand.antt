@@ -9,6 +9,7 @@ use lib.Dec.{eqb, ltb}
 use lib.IntN.{ℤ, pos}
 use lib.ListN.{length, getD, replicate}
 use Rattle.laws.specs.Choice.{if_then_else_}
+use Rattle.laws.specs.Ranges.{firsts}
 use Rattle.sync_lock.specs.declared.Lock.{Lock}
 use Rattle.sync_step.specs.declared.Event.{Event}
 use Rattle.sync_step.specs.declared.Event.the-variants.{Nothing, Head, Period, Lost}
@@ -23,6 +24,8 @@ use Rattle.sums.specs.Sums.{emptySums}
 use Rattle.demap.specs.Answers.{demapRefusal, demapBuffer}
 use Rattle.receiver.specs.declared.Kept.{Kept}
 use Rattle.receiver.specs.Started.{started, newKept}
+use Rattle.frame.specs.declared.AlignedSymbol.{AlignedSymbol}
+use Rattle.receiver_slot.specs.declared.AlignedRun.{AlignedRun}
 use Rattle.receiver_slot.specs.Slot.{softAll, writtenOn}
 use Rattle.receiver.specs.Symbol.{Input, Lent, aligned}
 use Rattle.receiver.specs.Answers.{noRuns, newAnswer, newAcc}
@@ -64,6 +67,18 @@ softOf (restarts at a) = []
 pub record NoSoft (c : Call) (t : Told) : Type 0 where
   pub runs : t .runs ≡ noRuns
   pub soft : t .soft ≡ softOf c
+
+-- where aligned symbols stand: each its position and slot index; those of a run one after another
+pub record Place : Type 0 where
+  pub at : ℕ
+  pub j : ℕ
+
+unfoldable pub placesIn : List AlignedSymbol → List Place
+placesIn [] = []
+placesIn (a ∷ rest) = record { at = a .meta .at; j = a .meta .j } ∷ placesIn rest
+
+unfoldable pub placesOf : AlignedRun → List Place
+placesOf r = firsts (λ (i : ℕ). record { at = r .at + i; j = r .j + i }) (r .count)
 
 -- the accumulators of a stretch, each from 0: that of place i has taken in, period by period, the sizes of those positions at i whose windows are complete
 unfoldable pub takenIn : ℕ → ℕ → ℕ
@@ -171,8 +186,10 @@ module _ (h : History) (s : System) (c : Call) (t : Told) (rest : List Call) whe
     pub heads : losesBy h c ≡ false → length ps ≡ suc m → (j : ℕ) → m ≡ (5 + j) * 9296 + place + 23 →
         Among (HeadAt (h .base + ((5 + j) * 9296 + place))) (t .events)
 
-  -- the soft bits of an accepted symbol stand in order from the buffer's start, are of its aligned symbols with the points of the history, and true
+  -- the soft bits of an accepted symbol stand in order from the buffer's start, are of its aligned symbols with the points of the history, and true. The aligned
+  -- symbols are those that the runs tell of, the tail's before the body's
   pub record SoftBits (x : Input) (l : Lent) : Type 0 where
+    pub placed : placesIn (aligned 9296 (s .receiver) x l) ≡ placesOf (t .runs .tail) ++ placesOf (t .runs .body)
     pub stand : t .soft ≡ writtenOn (softAll (h .points) (aligned 9296 (s .receiver) x l)) (l .soft)
     pub fit : length (softAll (h .points) (aligned 9296 (s .receiver) x l)) ≤ 44880
     pub are-true : (i : ℕ) → i < length (softAll (h .points) (aligned 9296 (s .receiver) x l)) → SoftTrue (h .points) (aligned 9296 (s .receiver) x l) i
