@@ -4,7 +4,7 @@ use fx::Parts;
 ghost use mathlib.Core.Path.{_≡_};
 ghost use Prim.Native.Nat.{_≤_, _^_};
 ghost use lib.IntN.{natAbs};
-ghost use Rattle.angles.specs.Angles.{turnedBy, turnFrom, turnedBack};
+ghost use Rattle.angles.specs.Angles.{turnedBy, turnedBack};
 
 // An angle turned on by a step of either sign. 2^61 is a whole number of turns, so the sum is not negative and its remainder is the angle.
 pub fn turn_on(a: u32, step: i64) -> u32
@@ -13,14 +13,6 @@ pub fn turn_on(a: u32, step: i64) -> u32
 {
     let v = step + (a as i64) + 0x2000_0000_0000_0000;
     ((v as u64) % 0x1_0000_0000) as u32
-}
-
-// The turn from one angle to another.
-pub fn turn_from(a: u32, b: u32) -> i64
-    ensures { λ r. ⌜ (r ≡ turnFrom a b) × (natAbs r ≤ 2 ^ 31) ⌝ }
-{
-    let d = std::num::wrapping_sub_u32(b, a);
-    fx::signed_angle(d)
 }
 
 // A symbol turned back by an angle, which is given by its cosine and sine, and rounded by s bits.

@@ -98,7 +98,7 @@ refusedHeading n =
 unfoldable pub headerOf : List ℕ → Heading
 headerOf s = if eqb (headerRefusal s) 0 then acceptedHeading s else refusedHeading (headerRefusal s)
 
--- with a lent table of `room` entries: "carrier table: 3, not 1,024 i16" stands above the capture's own refusals
+-- with a lent table of `room` entries: 3, "not 1,024 i16", stands above the capture's own refusals
 unfoldable pub answerRefusal : ℕ → List ℕ → ℕ
 answerRefusal room s = if eqb room 1024 then headerRefusal s else 3
 

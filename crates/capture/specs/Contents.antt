@@ -38,7 +38,7 @@ entryOf s n = record { fits = entryFits s n; length = lengthOf s n }
 unfoldable pub contentsFit : List ℕ → Bool
 contentsFit s = leb 33 (length s) && ((((eqb (getD s 0 0) 4 && entryFits s 0) && entryFits s 1) && entryFits s 2) && entryFits s 3)
 
--- the declared lengths of points and symbols, or "11: not as under Capture"
+-- the declared lengths of points and symbols, or 11
 unfoldable pub contentsOf : List ℕ → Lengths
 contentsOf s =
     if contentsFit s

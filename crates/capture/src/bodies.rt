@@ -43,8 +43,8 @@ fn words_fit(bytes: &[u8]) -> bool
 {
     let f = word(bytes, 33);
     let s = word(bytes, 81);
-    let a = sync_corr::ranged::ones(&f);
-    let b = sync_corr::ranged::ones(&s);
+    let a = sync_corr::plain::ones(&f);
+    let b = sync_corr::plain::ones(&s);
     a & b
 }
 

@@ -27,7 +27,7 @@ rotateAnswer n xi xq table =
     then record { refusal = 0; nco = advancedNco n; i = x .i; q = x .q }
     else record { refusal = k; nco = n; i = pos 0; q = pos 0 }
 
--- ---- a head: 6, a number of the state out of range, or an `amp` of size over 2^60; 7, "a head given stands at 2^62 or more"
+-- ---- a head: 6, a number of the state out of range, or an `amp` of size over 2^60; 7, the head stands at 2^62 or more
 unfoldable pub headRefusal : Nco → Head → ℕ
 headRefusal n h = if ncoInRange n then if wide (h .amp) then 6 else if leb (2 ^ 62) (h .at) then 7 else 0 else 6
 

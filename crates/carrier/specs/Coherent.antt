@@ -1,4 +1,4 @@
--- What is true together of the numbers of a carrier that came from calls: docs/RANGES.md, "Carrier", "jointly".
+-- What is true together of the numbers of a carrier that came from calls: docs/RANGES.md, under Carrier, what is told jointly.
 use Prim.Native.Nat.{_-_, _*_, _^_, _≤_}
 use lib.IntN.{pos}
 use lib.Signed.{_≤ℤ_}

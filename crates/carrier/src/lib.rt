@@ -1,4 +1,5 @@
 // The carrier, after `Nco` of chain/sync.rs. The state goes in by value and comes back; the carrier table is lent.
+pub mod plain;
 pub mod ranged;
 mod refusals;
 
@@ -49,7 +50,7 @@ pub struct Restarted {
 pub fn new(freq: i32) -> Nco
     ensures { λ r. ⌜ r ≡ startedNco 0 freq ⌝ }
 {
-    ranged::started(0, freq)
+    plain::started(0, freq)
 }
 
 // One symbol turned back by the phase, which then advances.
@@ -61,7 +62,7 @@ pub fn rotate(n: Nco, xi: i8, xq: i8, table: &[i16]) -> Rotated
         let x = ranged::rotated(table, n.phase, xi, xq);
         Rotated {
             refusal: 0,
-            nco: ranged::advanced(n),
+            nco: plain::advanced(n),
             i: x.i,
             q: x.q,
         }
@@ -95,10 +96,10 @@ pub fn head(n: Nco, h: Head) -> Heard
 pub fn restart(n: Nco) -> Restarted
     ensures { λ r. ⌜ r ≡ restartAnswer n ⌝ }
 {
-    if ranged::in_range(n) {
+    if plain::in_range(n) {
         Restarted {
             refusal: 0,
-            nco: ranged::started(n.phase, n.freq),
+            nco: plain::started(n.phase, n.freq),
         }
     } else {
         Restarted { refusal: 6, nco: n }

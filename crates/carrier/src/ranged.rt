@@ -10,18 +10,8 @@ ghost use mathlib.Core.Path.{_≡_};
 ghost use Prim.Native.Nat.{_+_, _≤_, _^_};
 ghost use lib.IntN.{natAbs};
 ghost use lib.ListN.{length};
-ghost use Rattle.carrier.specs.Carrier.{startedNco, rotatedOf, advancedNco, tuned, ssyncHeard, trailHeard, heardOf};
-ghost use Rattle.carrier.specs.Ranges.{stepsInRange, ncoInRange, StepsOk, NcoOk};
-
-pub fn started(phase: u32, freq: i32) -> Nco
-    ensures { λ r. ⌜ r ≡ startedNco phase freq ⌝ }
-{
-    Nco {
-        phase: phase,
-        freq: freq,
-        trail: Trail::Empty,
-    }
-}
+ghost use Rattle.carrier.specs.Carrier.{rotatedOf, tuned, ssyncHeard, trailHeard, heardOf};
+ghost use Rattle.carrier.specs.Ranges.{StepsOk, NcoOk};
 
 // The symbol turned back by the phase: at most 4,096 in each part, and 4,097 in both together.
 pub fn rotated(table: &[i16], phase: u32, xi: i8, xq: i8) -> Symbol
@@ -35,19 +25,6 @@ pub fn rotated(table: &[i16], phase: u32, xi: i8, xq: i8) -> Symbol
     Symbol {
         i: i as i16,
         q: q as i16,
-    }
-}
-
-// The phase after a symbol.
-pub fn advanced(n: Nco) -> Nco
-    ensures { λ r. ⌜ r ≡ advancedNco n ⌝ }
-{
-    let f = n.freq;
-    let t = n.trail;
-    Nco {
-        phase: angles::ranged::turn_on(n.phase, f as i64),
-        freq: f,
-        trail: t,
     }
 }
 
@@ -71,7 +48,7 @@ fn another(n: Nco, s: Steps, theta: u32) -> Heard
     requires { ⌜ StepsOk s ⌝ }
     ensures { λ r. ⌜ r ≡ ssyncHeard n s theta ⌝ }
 {
-    let sum = s.sum + angles::ranged::turn_from(s.last_ss, theta);
+    let sum = s.sum + angles::plain::turn_from(s.last_ss, theta);
     let steps = s.steps + 1;
     if steps < 60 {
         Heard {
@@ -145,21 +122,5 @@ pub fn heard(n: Nco, h: Head) -> Heard
             nco: n,
             set: false,
         },
-    }
-}
-
-fn steps_in_range(s: Steps) -> bool
-    ensures { λ r. ⌜ r ≡ stepsInRange s ⌝ }
-{
-    (s.steps <= 59) & (-126701535232 <= s.sum) & (s.sum <= 126701535173)
-}
-
-pub fn in_range(n: Nco) -> bool
-    ensures { λ r. ⌜ r ≡ ncoInRange n ⌝ }
-{
-    let t = n.trail;
-    match t {
-        Trail::Empty => true,
-        Trail::Since(s) => steps_in_range(s),
     }
 }

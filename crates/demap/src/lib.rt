@@ -52,7 +52,7 @@ pub fn demap_block(sy: &[i16], points: &[i16], bits: usize, k: i64, out: &mut [i
 pub fn scale_of(n0: i64) -> fx::Whole
     ensures { λ r. ⌜ r ≡ scaleAnswer n0 ⌝ }
 {
-    if fx::ranged::wide(n0) {
+    if fx::plain::wide(n0) {
         fx::Whole::Refused(6)
     } else {
         fx::Whole::Value(ranged::scale(n0))

@@ -9,11 +9,11 @@ ghost use lib.ListN.{length, drop};
 ghost use Rattle.demap.specs.Demap.{labelMetric, leastMetric, lowestLabel, softOf, softBits, blockBits, scaleOf};
 
 // The soft value of a gap between two least metrics.
-pub fn soft(gap: i64, k: i64) -> i8
+pub(crate) fn soft(gap: i64, k: i64) -> i8
     requires { ⌜ (natAbs gap ≤ 2 ^ 34) × (natAbs k ≤ 2 ^ 24) ⌝ }
     ensures { λ r. ⌜ r ≡ softOf gap k ⌝ }
 {
-    fx::ranged::sat127(fx::ranged::round_shift(gap * k, 32))
+    fx::plain::sat127(fx::ranged::round_shift(gap * k, 32))
 }
 
 // One symbol: its soft bits into out, from its start, and the least metric.
@@ -43,7 +43,7 @@ pub fn block(sy: &[i16], points: &[i16], bits: usize, k: i64, out: &mut [i8])
 
 // The lowest of n labels whose metric is at most v; with the least metric, the lowest that has it. Asked for apart, so that a demap without it
 // pays nothing.
-pub fn lowest_label(yi: i16, yq: i16, points: &[i16], n: usize, v: i64) -> usize
+pub(crate) fn lowest_label(yi: i16, yq: i16, points: &[i16], n: usize, v: i64) -> usize
     requires { ⌜ length (now points) ≡ 2 * n ⌝ }
     ensures { λ r. ⌜ r ≡ lowestLabel (labelMetric yi yq (now (points .entry))) n v ⌝ }
 {

@@ -1,5 +1,5 @@
 -- What the entries answer. A refusal "returns the number and the state received". 6, a number of the state out of range, is the only one but for
--- a training: 8, "training count 4,194,304 before any addition the call would make".
+-- a training: 8, "training count 4,194,304 .. before any addition the call would make".
 use Prim.Native.Nat.{ℕ}
 use mathlib.Core.Bool.{true, false, _&&_}
 use mathlib.Core.List.{List}

@@ -1,4 +1,5 @@
 // The equaliser, after `Equaliser` of chain/eq.rs. The state goes in by value and comes back.
+pub mod plain;
 pub mod ranged;
 
 use angles::Symbol;
@@ -59,19 +60,19 @@ pub fn new() -> Equaliser
 {
     let mut taps = [0i16; 22];
     taps[10] = 16384;
-    ranged::started(taps, TapsFrom::Identity)
+    plain::started(taps, TapsFrom::Identity)
 }
 
 // The line cleared and open sums dropped; the taps stay.
 pub fn restart(e: Equaliser) -> Kept
     ensures { λ r. ⌜ r ≡ restartAnswer e ⌝ }
 {
-    if ranged::in_range(e) {
+    if plain::in_range(e) {
         let taps = e.taps;
         let from = e.from;
         Kept {
             refusal: 0,
-            eq: ranged::started(taps, from),
+            eq: plain::started(taps, from),
         }
     } else {
         Kept { refusal: 6, eq: e }
@@ -82,12 +83,12 @@ pub fn restart(e: Equaliser) -> Kept
 pub fn push(e: Equaliser, i: i16, q: i16) -> Pushed
     ensures { λ r. ⌜ r ≡ pushAnswer e i q ⌝ }
 {
-    if ranged::in_range(e) {
-        let n = ranged::pushed(e, i, q);
+    if plain::in_range(e) {
+        let n = plain::pushed(e, i, q);
         Pushed {
             refusal: 0,
             eq: n,
-            out: ranged::output_of(n),
+            out: plain::output_of(n),
         }
     } else {
         Pushed {
@@ -102,7 +103,7 @@ pub fn push(e: Equaliser, i: i16, q: i16) -> Pushed
 pub fn output(e: Equaliser) -> Answered
     ensures { λ r. ⌜ r ≡ outputAnswer e ⌝ }
 {
-    if ranged::in_range(e) {
+    if plain::in_range(e) {
         let line = e.line;
         let taps = e.taps;
         Answered::Given(eq_fir::ranged::output(&taps, &line))
@@ -115,10 +116,10 @@ pub fn output(e: Equaliser) -> Answered
 pub fn open(e: Equaliser, frame: u32) -> Kept
     ensures { λ r. ⌜ r ≡ openAnswer e frame ⌝ }
 {
-    if ranged::in_range(e) {
+    if plain::in_range(e) {
         Kept {
             refusal: 0,
-            eq: ranged::with_sums(e, true, sums::new(frame)),
+            eq: plain::with_sums(e, true, sums::new(frame)),
         }
     } else {
         Kept { refusal: 6, eq: e }
@@ -129,7 +130,7 @@ pub fn open(e: Equaliser, frame: u32) -> Kept
 pub fn train(e: Equaliser, di: i16, dq: i16) -> Kept
     ensures { λ r. ⌜ r ≡ trainAnswer e di dq ⌝ }
 {
-    let n = ranged::train_refusal(e);
+    let n = plain::train_refusal(e);
     if n == 0 {
         Kept {
             refusal: 0,
@@ -145,13 +146,13 @@ pub fn close(e: Equaliser) -> Closed
     ensures { λ r. ⌜ r ≡ closeAnswer e ⌝ }
 {
     let none = sums::new(0);
-    if ranged::in_range(e) {
+    if plain::in_range(e) {
         let opened = e.opened;
         let s = e.sums;
         if opened {
             Closed {
                 refusal: 0,
-                eq: ranged::with_sums(e, false, none),
+                eq: plain::with_sums(e, false, none),
                 ended: true,
                 sums: s,
             }
@@ -177,10 +178,10 @@ pub fn close(e: Equaliser) -> Closed
 pub fn load(e: Equaliser, taps: [i16; 22], frame: u32) -> Kept
     ensures { λ r. ⌜ r ≡ loadAnswer e taps frame ⌝ }
 {
-    if ranged::in_range(e) {
+    if plain::in_range(e) {
         Kept {
             refusal: 0,
-            eq: ranged::loaded(e, taps, frame),
+            eq: plain::loaded(e, taps, frame),
         }
     } else {
         Kept { refusal: 6, eq: e }

@@ -153,7 +153,7 @@ pub(crate) fn upper(k: Kept, p: &[u64; 24]) -> Turn
     let s = e.sums;
     let v = given::wides(p);
     let t = given::upper_put(s, p[1], v);
-    plain(k, 0, eq::ranged::with_sums(e, e.opened, t))
+    plain(k, 0, eq::plain::with_sums(e, e.opened, t))
 }
 
 pub(crate) fn right(k: Kept, p: &[u64; 24]) -> Turn
@@ -163,7 +163,7 @@ pub(crate) fn right(k: Kept, p: &[u64; 24]) -> Turn
     let s = e.sums;
     let v = given::wides(p);
     let t = given::right_put(s, v);
-    plain(k, 0, eq::ranged::with_sums(e, e.opened, t))
+    plain(k, 0, eq::plain::with_sums(e, e.opened, t))
 }
 
 // The equaliser's sums are those to solve from now on.

@@ -83,7 +83,7 @@ pub fn output(taps: &[i16; 22], line: &[i16; 22]) -> Symbol
     let re = sum_re(taps, line);
     let im = sum_im(taps, line);
     Symbol {
-        i: fx::ranged::sat16(fx::ranged::round_shift(re, 14)),
-        q: fx::ranged::sat16(fx::ranged::round_shift(im, 14)),
+        i: fx::plain::sat16(fx::ranged::round_shift(re, 14)),
+        q: fx::plain::sat16(fx::ranged::round_shift(im, 14)),
     }
 }

@@ -100,7 +100,7 @@ fn dots(l: &[i16; 24], rows: &[i16; 96]) -> Dots
 fn finished(high: i32, low: i32) -> i16
     ensures { λ r. ⌜ r ≡ finishedOf high low ⌝ }
 {
-    fx::ranged::sat16(fx::ranged::round_shift((high as i64) * 256 + (low as i64), 14))
+    fx::plain::sat16(fx::ranged::round_shift((high as i64) * 256 + (low as i64), 14))
 }
 
 // The output for the line as it is, by the rows of the taps. They have to come by a reference from outside the caller's loop: of a local array

@@ -1,4 +1,4 @@
--- What is true together of the numbers of an equaliser that came from calls: docs/RANGES.md, "Equaliser", "jointly".
+-- What is true together of the numbers of an equaliser that came from calls: docs/RANGES.md, under Equaliser, what is told jointly.
 use Prim.Native.Nat.{ℕ, _*_, _≤_, _<_}
 use mathlib.Core.Bool.{true, false}
 use mathlib.Core.Path.{_≡_}

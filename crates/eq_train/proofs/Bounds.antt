@@ -110,36 +110,36 @@ test-at-most a b e = record { le = subst T (sym e) tt }
 all-three : (a b c : Bool) → a ≡ true → b ≡ true → c ≡ true → ((a && b) && c) ≡ true
 all-three a b c e f g = rw (e, f, g)
 
-pub product-in : (n : ℕ) (re im : ℤ) → n ≤ 4194304 → ProductSound n re im → productInRange re im ≡ true
+pub product-in : (n N : ℕ) (re im : ℤ) → n ≤ N → ProductSound n re im → productInRange N re im ≡ true
 unfolding productInRange
-product-in n re im h s =
-    all-three (leZ (minus 9006924376834048) re) (leZ re (pos 9007199254740992)) (leb (natAbs im) 9007061815787520)
-    (at-most (minus 9006924376834048) re (le-ud (minus 9006924376834048) re (omega (arith, ud-le (s .low), neg-ud (pos (n * 2147418112))))))
-    (at-most re (pos 9007199254740992) (le-ud re (pos 9007199254740992) (omega (arith, ud-le (s .high)))))
-    (le-leb (natAbs im) 9007061815787520 (omega (arith, s .turn)))
+product-in n N re im h s =
+    all-three (leZ (minus (N * 2147418112)) re) (leZ re (pos (N * 2147483648))) (leb (natAbs im) (N * 2147450880))
+    (at-most (minus (N * 2147418112)) re (le-ud (minus (N * 2147418112)) re (omega (arith, ud-le (s .low), neg-ud (pos (n * 2147418112)), neg-ud (pos (N * 2147418112))))))
+    (at-most re (pos (N * 2147483648)) (le-ud re (pos (N * 2147483648)) (omega (arith, ud-le (s .high)))))
+    (le-leb (natAbs im) (N * 2147450880) (omega (arith, s .turn)))
 
-pub diagonal-in : (n : ℕ) (re im : ℤ) → n ≤ 4194304 → DiagonalSound n re im → diagonalInRange re im ≡ true
+pub diagonal-in : (n N : ℕ) (re im : ℤ) → n ≤ N → DiagonalSound n re im → diagonalInRange N re im ≡ true
 unfolding diagonalInRange
-diagonal-in n re im h s =
-    all-three (leZ (pos 0) re) (leZ re (pos 9007199254740992)) (eqb (natAbs im) 0)
+diagonal-in n N re im h s =
+    all-three (leZ (pos 0) re) (leZ re (pos (N * 2147483648))) (eqb (natAbs im) 0)
     (at-most (pos 0) re (s .low))
-    (at-most re (pos 9007199254740992) (le-ud re (pos 9007199254740992) (omega (arith, ud-le (s .high)))))
+    (at-most re (pos (N * 2147483648)) (le-ud re (pos (N * 2147483648)) (omega (arith, ud-le (s .high)))))
     (eq-eqb (natAbs im) 0 (ap natAbs (s .turn)))
 
-pub product-small : (re im : ℤ) → productInRange re im ≡ true → (natAbs re ≤ 2 ^ 53) × (natAbs im ≤ 2 ^ 53)
+pub product-small : (N : ℕ) → N ≤ 4194304 → (re im : ℤ) → productInRange N re im ≡ true → (natAbs re ≤ 2 ^ 53) × (natAbs im ≤ 2 ^ 53)
 unfolding productInRange
-product-small re im e =
-    let f = and-both (leZ (minus 9006924376834048) re && leZ re (pos 9007199254740992)) (leb (natAbs im) 9007061815787520) e in
-    let g = and-both (leZ (minus 9006924376834048) re) (leZ re (pos 9007199254740992)) (f .0) in
-    let low = ud-le (test-at-most (minus 9006924376834048) re (g .0)) in
-    let high = ud-le (test-at-most re (pos 9007199254740992) (g .1)) in
-    (size-le re 9007199254740992 (omega (arith, high)) (omega (arith, low)), omega (arith, leb-true (natAbs im) 9007061815787520 (f .1)))
+product-small N few re im e =
+    let f = and-both (leZ (minus (N * 2147418112)) re && leZ re (pos (N * 2147483648))) (leb (natAbs im) (N * 2147450880)) e in
+    let g = and-both (leZ (minus (N * 2147418112)) re) (leZ re (pos (N * 2147483648))) (f .0) in
+    let low = ud-le (test-at-most (minus (N * 2147418112)) re (g .0)) in
+    let high = ud-le (test-at-most re (pos (N * 2147483648)) (g .1)) in
+    (size-le re 9007199254740992 (omega (arith, high)) (omega (arith, low, neg-ud (pos (N * 2147418112)))), omega (arith, leb-true (natAbs im) (N * 2147450880) (f .1)))
 
-pub diagonal-small : (re im : ℤ) → diagonalInRange re im ≡ true → (natAbs re ≤ 2 ^ 53) × (natAbs im ≤ 2 ^ 53)
+pub diagonal-small : (N : ℕ) → N ≤ 4194304 → (re im : ℤ) → diagonalInRange N re im ≡ true → (natAbs re ≤ 2 ^ 53) × (natAbs im ≤ 2 ^ 53)
 unfolding diagonalInRange
-diagonal-small re im e =
-    let f = and-both (leZ (pos 0) re && leZ re (pos 9007199254740992)) (eqb (natAbs im) 0) e in
-    let g = and-both (leZ (pos 0) re) (leZ re (pos 9007199254740992)) (f .0) in
+diagonal-small N few re im e =
+    let f = and-both (leZ (pos 0) re && leZ re (pos (N * 2147483648))) (eqb (natAbs im) 0) e in
+    let g = and-both (leZ (pos 0) re) (leZ re (pos (N * 2147483648))) (f .0) in
     let low = ud-le (test-at-most (pos 0) re (g .0)) in
-    let high = ud-le (test-at-most re (pos 9007199254740992) (g .1)) in
+    let high = ud-le (test-at-most re (pos (N * 2147483648)) (g .1)) in
     (size-le re 9007199254740992 (omega (arith, high)) (omega (arith, low)), omega (arith, eqb-true (natAbs im) 0 (f .1)))

@@ -34,80 +34,80 @@ pair-at s u k h l p =
     next : (u k : ℕ) → u ≤ k → k < u + 2 → (u ≡ k → ⊥) → u + 1 ≡ k
     next u k h l n = omega (arith, n)
 
-entry-small : (s : List ℤ) (r c : ℕ) → r ≤ c → entryInRange s r c ≡ true → (Small s (2 * upperAt r c)) × (Small s (2 * upperAt r c + 1))
-entry-small s r c h e =
+entry-small : (N : ℕ) → N ≤ 4194304 → (s : List ℤ) (r c : ℕ) → r ≤ c → entryInRange N s r c ≡ true → (Small s (2 * upperAt r c)) × (Small s (2 * upperAt r c + 1))
+entry-small N few s r c h e =
     by-test (eqb r c)
     (λ f. diagonal s r c (eqb-true r c f) e)
-    (λ f. product-small (nth s (2 * upperAt r c)) (nth s (2 * upperAt r c + 1)) (sym (product-entry s r c (apart r c h (eqb-false r c f))) ∙ e))
+    (λ f. product-small N few (nth s (2 * upperAt r c)) (nth s (2 * upperAt r c + 1)) (sym (product-entry N s r c (apart r c h (eqb-false r c f))) ∙ e))
   where
     apart : (r c : ℕ) → r ≤ c → (r ≡ c → ⊥) → r < c
     apart r c h n = omega (arith, n)
 
-    diagonal : (s : List ℤ) (r c : ℕ) → r ≡ c → entryInRange s r c ≡ true → (Small s (2 * upperAt r c)) × (Small s (2 * upperAt r c + 1))
-    diagonal s r c f e = rw (← f) (diagonal-small (nth s (2 * upperAt r r)) (nth s (2 * upperAt r r + 1)) (sym (diagonal-entry s r) ∙ rw (← f) at e))
+    diagonal : (s : List ℤ) (r c : ℕ) → r ≡ c → entryInRange N s r c ≡ true → (Small s (2 * upperAt r c)) × (Small s (2 * upperAt r c + 1))
+    diagonal s r c f e = rw (← f) (diagonal-small N few (nth s (2 * upperAt r r)) (nth s (2 * upperAt r r + 1)) (sym (diagonal-entry N s r) ∙ rw (← f) at e))
 
 -- by the column, k is of the pair or of those after it
-row-small : (s : List ℤ) (r c n : ℕ) → r ≤ c → rowInRange s r c n ≡ true → (k : ℕ) → 2 * upperAt r c ≤ k → k < 2 * upperAt r c + 2 * n → Small s k
+row-small : (N : ℕ) → N ≤ 4194304 → (s : List ℤ) (r c n : ℕ) → r ≤ c → rowInRange N s r c n ≡ true → (k : ℕ) → 2 * upperAt r c ≤ k → k < 2 * upperAt r c + 2 * n → Small s k
 unfolding rowInRange
-row-small s r c zero h e k l m = absurd (none (upperAt r c) k l m)
+row-small N few s r c zero h e k l m = absurd (none (upperAt r c) k l m)
   where
     none : (u k : ℕ) → 2 * u ≤ k → k < 2 * u + 2 * 0 → ⊥
     none u k l m = omega arith
-row-small s r c (suc n) h e k l m =
-    let f = and-both (entryInRange s r c) (rowInRange s r (suc c) n) e in
+row-small N few s r c (suc n) h e k l m =
+    let f = and-both (entryInRange N s r c) (rowInRange N s r (suc c) n) e in
     by-test (ltb k (2 * upperAt r c + 2))
-    (λ t. pair-at s (2 * upperAt r c) k l (ltb-true k (2 * upperAt r c + 2) t) (entry-small s r c h (f .0)))
-    (λ t. row-small s r (suc c) n (omega arith) (f .1) k (omega (arith, next-column r c, ltb-false k (2 * upperAt r c + 2) t)) (omega (arith, next-column r c, m)))
+    (λ t. pair-at s (2 * upperAt r c) k l (ltb-true k (2 * upperAt r c + 2) t) (entry-small N few s r c h (f .0)))
+    (λ t. row-small N few s r (suc c) n (omega arith) (f .1) k (omega (arith, next-column r c, ltb-false k (2 * upperAt r c + 2) t)) (omega (arith, next-column r c, m)))
 
-upper-small : (s : List ℤ) (r n : ℕ) → r + n ≡ 11 → upperInRange s r n ≡ true → (k : ℕ) → 2 * upperAt r r ≤ k → k < 132 → Small s k
+upper-small : (N : ℕ) → N ≤ 4194304 → (s : List ℤ) (r n : ℕ) → r + n ≡ 11 → upperInRange N s r n ≡ true → (k : ℕ) → 2 * upperAt r r ≤ k → k < 132 → Small s k
 unfolding upperInRange
-upper-small s r zero h e k l m = absurd (none r k h l m)
+upper-small N few s r zero h e k l m = absurd (none r k h l m)
   where
     none : (r k : ℕ) → r + 0 ≡ 11 → 2 * upperAt r r ≤ k → k < 132 → ⊥
     none r k h l m =
         let f : r ≡ 11 = omega (arith, h) in
         let g = rw f at l in
         omega (arith, g, m, places-left [] 11 (le-refl 11), upper-none [] 11)
-upper-small s r (suc n) h e k l m =
-    let f = and-both (rowInRange s r r (suc n)) (upperInRange s (suc r) n) e in
+upper-small N few s r (suc n) h e k l m =
+    let f = and-both (rowInRange N s r r (suc n)) (upperInRange N s (suc r) n) e in
     by-test (ltb k (2 * upperAt r r + 2 * suc n))
-    (λ t. row-small s r r (suc n) (le-refl r) (f .0) k l (ltb-true k (2 * upperAt r r + 2 * suc n) t))
-    (λ t. upper-small s (suc r) n (omega (arith, h)) (f .1) k (omega (arith, next-row r (omega (arith, h)), h, ltb-false k (2 * upperAt r r + 2 * suc n) t)) m)
+    (λ t. row-small N few s r r (suc n) (le-refl r) (f .0) k l (ltb-true k (2 * upperAt r r + 2 * suc n) t))
+    (λ t. upper-small N few s (suc r) n (omega (arith, h)) (f .1) k (omega (arith, next-row r (omega (arith, h)), h, ltb-false k (2 * upperAt r r + 2 * suc n) t)) m)
 
-right-small : (p : List ℤ) (r n : ℕ) → rightInRange p r n ≡ true → (k : ℕ) → 2 * r ≤ k → k < 2 * r + 2 * n → Small p k
+right-small : (N : ℕ) → N ≤ 4194304 → (p : List ℤ) (r n : ℕ) → rightInRange N p r n ≡ true → (k : ℕ) → 2 * r ≤ k → k < 2 * r + 2 * n → Small p k
 unfolding rightInRange
-right-small p r zero e k l m = absurd (none r k l m)
+right-small N few p r zero e k l m = absurd (none r k l m)
   where
     none : (u k : ℕ) → 2 * u ≤ k → k < 2 * u + 2 * 0 → ⊥
     none u k l m = omega arith
-right-small p r (suc n) e k l m =
-    let f = and-both (productInRange (nth p (2 * r)) (nth p (2 * r + 1))) (rightInRange p (suc r) n) e in
+right-small N few p r (suc n) e k l m =
+    let f = and-both (productInRange N (nth p (2 * r)) (nth p (2 * r + 1))) (rightInRange N p (suc r) n) e in
     by-test (ltb k (2 * r + 2))
-    (λ t. pair-at p (2 * r) k l (ltb-true k (2 * r + 2) t) (product-small (nth p (2 * r)) (nth p (2 * r + 1)) (f .0)))
-    (λ t. right-small p (suc r) n (f .1) k (omega (arith, ltb-false k (2 * r + 2) t)) (omega (arith, m)))
+    (λ t. pair-at p (2 * r) k l (ltb-true k (2 * r + 2) t) (product-small N few (nth p (2 * r)) (nth p (2 * r + 1)) (f .0)))
+    (λ t. right-small N few p (suc r) n (f .1) k (omega (arith, ltb-false k (2 * r + 2) t)) (omega (arith, m)))
 
-pub upper-sizes : (s : List ℤ) → upperInRange s 0 11 ≡ true → (k : ℕ) → k < 132 → natAbs (nth s k) ≤ 2 ^ 53
-upper-sizes s e k h = upper-small s 0 11 refl e k (omega (arith, first-place)) h
+pub upper-sizes : (N : ℕ) → N ≤ 4194304 → (s : List ℤ) → upperInRange N s 0 11 ≡ true → (k : ℕ) → k < 132 → natAbs (nth s k) ≤ 2 ^ 53
+upper-sizes N few s e k h = upper-small N few s 0 11 refl e k (omega (arith, first-place)) h
 
-pub right-sizes : (p : List ℤ) → rightInRange p 0 11 ≡ true → (k : ℕ) → k < 22 → natAbs (nth p k) ≤ 2 ^ 53
-right-sizes p e k h = right-small p 0 11 e k (omega arith) h
+pub right-sizes : (N : ℕ) → N ≤ 4194304 → (p : List ℤ) → rightInRange N p 0 11 ≡ true → (k : ℕ) → k < 22 → natAbs (nth p k) ≤ 2 ^ 53
+right-sizes N few p e k h = right-small N few p 0 11 e k (omega arith) h
 
 -- ---- from each entry to the test
-row-true : (s : List ℤ) (r c n : ℕ) → ((d : ℕ) → c ≤ d → d < c + n → entryInRange s r d ≡ true) → rowInRange s r c n ≡ true
+row-true : (N : ℕ) (s : List ℤ) (r c n : ℕ) → ((d : ℕ) → c ≤ d → d < c + n → entryInRange N s r d ≡ true) → rowInRange N s r c n ≡ true
 unfolding rowInRange
-row-true s r c zero h = refl
-row-true s r c (suc n) h = rw (h c (le-refl c) (omega arith), row-true s r (suc c) n (λ d l m. h d (omega arith) (omega arith)))
+row-true N s r c zero h = refl
+row-true N s r c (suc n) h = rw (h c (le-refl c) (omega arith), row-true N s r (suc c) n (λ d l m. h d (omega arith) (omega arith)))
 
-pub upper-true : (s : List ℤ) (r n : ℕ) → r + n ≡ 11 → ((i c : ℕ) → i ≤ c → c < 11 → entryInRange s i c ≡ true) → upperInRange s r n ≡ true
+pub upper-true : (N : ℕ) (s : List ℤ) (r n : ℕ) → r + n ≡ 11 → ((i c : ℕ) → i ≤ c → c < 11 → entryInRange N s i c ≡ true) → upperInRange N s r n ≡ true
 unfolding upperInRange
-upper-true s r zero e h = refl
-upper-true s r (suc n) e h =
-    rw (row-true s r r (suc n) (λ d l m. h r d l (omega (arith, e))), upper-true s (suc r) n (omega (arith, e)) h)
+upper-true N s r zero e h = refl
+upper-true N s r (suc n) e h =
+    rw (row-true N s r r (suc n) (λ d l m. h r d l (omega (arith, e))), upper-true N s (suc r) n (omega (arith, e)) h)
 
-pub right-true : (p : List ℤ) (r n : ℕ) → r + n ≡ 11 → ((i : ℕ) → i < 11 → productInRange (nth p (2 * i)) (nth p (2 * i + 1)) ≡ true) → rightInRange p r n ≡ true
+pub right-true : (N : ℕ) (p : List ℤ) (r n : ℕ) → r + n ≡ 11 → ((i : ℕ) → i < 11 → productInRange N (nth p (2 * i)) (nth p (2 * i + 1)) ≡ true) → rightInRange N p r n ≡ true
 unfolding rightInRange
-right-true p r zero e h = refl
-right-true p r (suc n) e h = rw (h r (omega (arith, e)), right-true p (suc r) n (omega (arith, e)) h)
+right-true N p r zero e h = refl
+right-true N p r (suc n) e h = rw (h r (omega (arith, e)), right-true N p (suc r) n (omega (arith, e)) h)
 
 -- ---- what a training adds at each place
 added-at : (s p : List ℤ) (n k : ℕ) → k < n → nth (added s p n) k ≡ nth s k +ℤ nth p k

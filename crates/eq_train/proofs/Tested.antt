@@ -41,47 +41,47 @@ zero-bits z f =
     (λ e. ne-eqb (ofZ w64 z) 0 (λ b. eqb-false (natAbs z) 0 e (ap natAbs (sym (toZ-ofZ f) ∙ ap (toZ w64) b))) ∙ sym e)
 
 -- ---- entries
-pub diagonal-entry : (s : List ℤ) (r : ℕ) → entryInRange s r r ≡ diagonalInRange (nth s (2 * upperAt r r)) (nth s (2 * upperAt r r + 1))
+pub diagonal-entry : (N : ℕ) (s : List ℤ) (r : ℕ) → entryInRange N s r r ≡ diagonalInRange N (nth s (2 * upperAt r r)) (nth s (2 * upperAt r r + 1))
 unfolding entryInRange
-diagonal-entry s r = if-yes (eqb r r) _ _ (eq-eqb r r refl)
+diagonal-entry N s r = if-yes (eqb r r) _ _ (eq-eqb r r refl)
 
-pub product-entry : (s : List ℤ) (r c : ℕ) → r < c → entryInRange s r c ≡ productInRange (nth s (2 * upperAt r c)) (nth s (2 * upperAt r c + 1))
+pub product-entry : (N : ℕ) (s : List ℤ) (r c : ℕ) → r < c → entryInRange N s r c ≡ productInRange N (nth s (2 * upperAt r c)) (nth s (2 * upperAt r c + 1))
 unfolding entryInRange
-product-entry s r c h = if-no (eqb r c) _ _ (ne-eqb r c (other r c h))
+product-entry N s r c h = if-no (eqb r c) _ _ (ne-eqb r c (other r c h))
   where
     other : (r c : ℕ) → r < c → r ≡ c → ⊥
     other r c h e = omega arith
 
 -- ---- a turn of each loop
-pub row-one : (s : List ℤ) (r c : ℕ) (t : Bool) → c < 11 → t ≡ entryInRange s r c → (t && rowInRange s r (c + 1) (11 - (c + 1))) ≡ rowInRange s r c (11 - c)
+pub row-one : (N : ℕ) (s : List ℤ) (r c : ℕ) (t : Bool) → c < 11 → t ≡ entryInRange N s r c → (t && rowInRange N s r (c + 1) (11 - (c + 1))) ≡ rowInRange N s r c (11 - c)
 unfolding rowInRange
-row-one s r c t h e = rw (e, later c h, add-one c)
+row-one N s r c t h e = rw (e, later c h, add-one c)
 
-pub row-next : (s : List ℤ) (r c : ℕ) (all t : Bool) → c < 11 → t ≡ entryInRange s r c → ((all && t) && rowInRange s r (c + 1) (11 - (c + 1))) ≡ (all && rowInRange s r c (11 - c))
-row-next s r c all t h e = and-assoc all t (rowInRange s r (c + 1) (11 - (c + 1))) ∙ ap (λ (b : Bool). all && b) (row-one s r c t h e)
+pub row-next : (N : ℕ) (s : List ℤ) (r c : ℕ) (all t : Bool) → c < 11 → t ≡ entryInRange N s r c → ((all && t) && rowInRange N s r (c + 1) (11 - (c + 1))) ≡ (all && rowInRange N s r c (11 - c))
+row-next N s r c all t h e = and-assoc all t (rowInRange N s r (c + 1) (11 - (c + 1))) ∙ ap (λ (b : Bool). all && b) (row-one N s r c t h e)
 
-pub row-end : (s : List ℤ) (r : ℕ) (all : Bool) → (all && rowInRange s r 11 0) ≡ all
+pub row-end : (N : ℕ) (s : List ℤ) (r : ℕ) (all : Bool) → (all && rowInRange N s r 11 0) ≡ all
 unfolding rowInRange
-row-end s r all = and-true all
+row-end N s r all = and-true all
 
-upper-one : (s : List ℤ) (r : ℕ) (t : Bool) → r < 11 → t ≡ rowInRange s r r (11 - r) → (t && upperInRange s (r + 1) (11 - (r + 1))) ≡ upperInRange s r (11 - r)
+upper-one : (N : ℕ) (s : List ℤ) (r : ℕ) (t : Bool) → r < 11 → t ≡ rowInRange N s r r (11 - r) → (t && upperInRange N s (r + 1) (11 - (r + 1))) ≡ upperInRange N s r (11 - r)
 unfolding upperInRange
-upper-one s r t h e = rw (e, later r h, add-one r)
+upper-one N s r t h e = rw (e, later r h, add-one r)
 
-pub upper-next : (s : List ℤ) (r : ℕ) (all t : Bool) → r < 11 → t ≡ rowInRange s r r (11 - r) → ((all && t) && upperInRange s (r + 1) (11 - (r + 1))) ≡ (all && upperInRange s r (11 - r))
-upper-next s r all t h e = and-assoc all t (upperInRange s (r + 1) (11 - (r + 1))) ∙ ap (λ (b : Bool). all && b) (upper-one s r t h e)
+pub upper-next : (N : ℕ) (s : List ℤ) (r : ℕ) (all t : Bool) → r < 11 → t ≡ rowInRange N s r r (11 - r) → ((all && t) && upperInRange N s (r + 1) (11 - (r + 1))) ≡ (all && upperInRange N s r (11 - r))
+upper-next N s r all t h e = and-assoc all t (upperInRange N s (r + 1) (11 - (r + 1))) ∙ ap (λ (b : Bool). all && b) (upper-one N s r t h e)
 
-pub upper-end : (s : List ℤ) (all : Bool) → (all && upperInRange s 11 0) ≡ all
+pub upper-end : (N : ℕ) (s : List ℤ) (all : Bool) → (all && upperInRange N s 11 0) ≡ all
 unfolding upperInRange
-upper-end s all = and-true all
+upper-end N s all = and-true all
 
-right-one : (p : List ℤ) (r : ℕ) (t : Bool) → r < 11 → t ≡ productInRange (nth p (2 * r)) (nth p (2 * r + 1)) → (t && rightInRange p (r + 1) (11 - (r + 1))) ≡ rightInRange p r (11 - r)
+right-one : (N : ℕ) (p : List ℤ) (r : ℕ) (t : Bool) → r < 11 → t ≡ productInRange N (nth p (2 * r)) (nth p (2 * r + 1)) → (t && rightInRange N p (r + 1) (11 - (r + 1))) ≡ rightInRange N p r (11 - r)
 unfolding rightInRange
-right-one p r t h e = rw (e, later r h, add-one r)
+right-one N p r t h e = rw (e, later r h, add-one r)
 
-pub right-next : (p : List ℤ) (r : ℕ) (all t : Bool) → r < 11 → t ≡ productInRange (nth p (2 * r)) (nth p (2 * r + 1)) → ((all && t) && rightInRange p (r + 1) (11 - (r + 1))) ≡ (all && rightInRange p r (11 - r))
-right-next p r all t h e = and-assoc all t (rightInRange p (r + 1) (11 - (r + 1))) ∙ ap (λ (b : Bool). all && b) (right-one p r t h e)
+pub right-next : (N : ℕ) (p : List ℤ) (r : ℕ) (all t : Bool) → r < 11 → t ≡ productInRange N (nth p (2 * r)) (nth p (2 * r + 1)) → ((all && t) && rightInRange N p (r + 1) (11 - (r + 1))) ≡ (all && rightInRange N p r (11 - r))
+right-next N p r all t h e = and-assoc all t (rightInRange N p (r + 1) (11 - (r + 1))) ∙ ap (λ (b : Bool). all && b) (right-one N p r t h e)
 
-pub right-end : (p : List ℤ) (all : Bool) → (all && rightInRange p 11 0) ≡ all
+pub right-end : (N : ℕ) (p : List ℤ) (all : Bool) → (all && rightInRange N p 11 0) ≡ all
 unfolding rightInRange
-right-end p all = and-true all
+right-end N p all = and-true all

@@ -28,28 +28,31 @@ use Rattle.eq_train.proofs.Laws.{upper-sizes, right-sizes, upper-true, 
 pub in-range-ok : (s : Sums) → sumsInRange s ≡ true → s .count < 4194304 → SumsOk s
 unfolding sumsInRange
 in-range-ok s e h =
-    let f = and-both (leb (s .count) 4194304 && upperInRange (s .r) 0 11) (rightInRange (s .p) 0 11) e in
-    let g = and-both (leb (s .count) 4194304) (upperInRange (s .r) 0 11) (f .0) in
-    record { count = h; upper = λ k l. omega (arith, upper-sizes (s .r) (g .1) k l); right = λ k l. omega (arith, right-sizes (s .p) (f .1) k l) }
+    let f = and-both (leb (s .count) 4194304 && upperInRange 4194304 (s .r) 0 11) (rightInRange 4194304 (s .p) 0 11) e in
+    let g = and-both (leb (s .count) 4194304) (upperInRange 4194304 (s .r) 0 11) (f .0) in
+    record { count = h; upper = λ k l. omega (arith, upper-sizes 4194304 (le-refl 4194304) (s .r) (g .1) k l); right = λ k l. omega (arith, right-sizes 4194304 (le-refl 4194304) (s .p) (f .1) k l) }
 
--- ---- sound sums are in range
-sound-entry : (s : Sums) → SumsSound s → (r c : ℕ) → r ≤ c → c < 11 → entryInRange (s .r) r c ≡ true
-sound-entry s m r c h l =
+-- ---- sound sums of at most N trainings are in range
+sound-entry : (N : ℕ) (s : Sums) → SumsSound s → s .count ≤ N → (r c : ℕ) → r ≤ c → c < 11 → entryInRange N (s .r) r c ≡ true
+sound-entry N s m few r c h l =
     by-test (eqb r c)
-    (λ e. subst (λ (d : ℕ). entryInRange (s .r) r d ≡ true) (eqb-true r c e) (diagonal-entry (s .r) r ∙ diagonal-in (s .count) (nth (s .r) (2 * upperAt r r)) (nth (s .r) (2 * upperAt r r + 1)) (m .count) (m .diagonal r (omega arith))))
+    (λ e. subst (λ (d : ℕ). entryInRange N (s .r) r d ≡ true) (eqb-true r c e) (diagonal-entry N (s .r) r ∙ diagonal-in (s .count) N (nth (s .r) (2 * upperAt r r)) (nth (s .r) (2 * upperAt r r + 1)) few (m .diagonal r (omega arith))))
     (λ e. let k = apart r c h (eqb-false r c e) in
-    product-entry (s .r) r c k ∙ product-in (s .count) (nth (s .r) (2 * upperAt r c)) (nth (s .r) (2 * upperAt r c + 1)) (m .count) (m .upper r c k l))
+    product-entry N (s .r) r c k ∙ product-in (s .count) N (nth (s .r) (2 * upperAt r c)) (nth (s .r) (2 * upperAt r c + 1)) few (m .upper r c k l))
   where
     apart : (r c : ℕ) → r ≤ c → (r ≡ c → ⊥) → r < c
     apart r c h n = omega (arith, n)
+
+pub sound-upper : (N : ℕ) (s : Sums) → SumsSound s → s .count ≤ N → upperInRange N (s .r) 0 11 ≡ true
+sound-upper N s m few = upper-true N (s .r) 0 11 refl (sound-entry N s m few)
 
 pub sound-in-range : (s : Sums) → SumsSound s → sumsInRange s ≡ true
 unfolding sumsInRange
 sound-in-range s m =
     rw (
       le-leb (s .count) 4194304 (m .count),
-      upper-true (s .r) 0 11 refl (sound-entry s m),
-      right-true (s .p) 0 11 refl (λ i h. product-in (s .count) (nth (s .p) (2 * i)) (nth (s .p) (2 * i + 1)) (m .count) (m .right i h)),
+      sound-upper 4194304 s m (m .count),
+      right-true 4194304 (s .p) 0 11 refl (λ i h. product-in (s .count) 4194304 (nth (s .p) (2 * i)) (nth (s .p) (2 * i + 1)) (m .count) (m .right i h)),
     )
 
 -- ---- empty sums are sound

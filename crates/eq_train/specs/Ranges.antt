@@ -10,36 +10,38 @@ use Rattle.sums.specs.Sums.{upperAt}
 use Rattle.sums.specs.declared.Sums.{Sums}
 use Rattle.eq_train.specs.Train.{nth}
 
--- on the diagonal: a sum of up to 2^22 squares of size, each up to 2^31, and nothing imaginary
-unfoldable pub diagonalInRange : ℤ → ℤ → Bool
-diagonalInRange re im = leZ (pos 0) re && leZ re (pos (2 ^ 53)) && eqb (natAbs im) 0
+-- n trainings at most. On the diagonal: a sum of squares of size, each up to 2^31, and nothing imaginary
+unfoldable pub diagonalInRange : ℕ → ℤ → ℤ → Bool
+diagonalInRange n re im = leZ (pos 0) re && leZ re (pos (n * 2 ^ 31)) && eqb (natAbs im) 0
 
--- off it, and on the right hand: of up to 2^22 products, each with a real part from -(2^31 - 2^16) to 2^31 and an imaginary part within 2^31 - 2^15
-unfoldable pub productInRange : ℤ → ℤ → Bool
-productInRange re im = leZ (minus (2 ^ 53 - 2 ^ 38)) re && leZ re (pos (2 ^ 53)) && leb (natAbs im) (2 ^ 53 - 2 ^ 37)
+-- off it, and on the right hand: of products, each with a real part from -(2^31 - 2^16) to 2^31 and an imaginary part within 2^31 - 2^15
+unfoldable pub productInRange : ℕ → ℤ → ℤ → Bool
+productInRange n re im =
+    leZ (minus (n * (2 ^ 31 - 2 ^ 16))) re && leZ re (pos (n * 2 ^ 31)) && leb (natAbs im) (n * (2 ^ 31 - 2 ^ 15))
 
 -- the entry of row r and column c
-unfoldable pub entryInRange : List ℤ → ℕ → ℕ → Bool
-entryInRange s r c =
+unfoldable pub entryInRange : ℕ → List ℤ → ℕ → ℕ → Bool
+entryInRange n s r c =
     let k = 2 * upperAt r c in
-    if eqb r c then diagonalInRange (nth s k) (nth s (k + 1)) else productInRange (nth s k) (nth s (k + 1))
+    if eqb r c then diagonalInRange n (nth s k) (nth s (k + 1)) else productInRange n (nth s k) (nth s (k + 1))
 
--- n entries of row r from column c on; n rows from r on
-unfoldable pub rowInRange : List ℤ → ℕ → ℕ → ℕ → Bool
-rowInRange s r c zero = true
-rowInRange s r c (suc n) = entryInRange s r c && rowInRange s r (suc c) n
+-- m entries of row r from column c on; m rows from r on
+unfoldable pub rowInRange : ℕ → List ℤ → ℕ → ℕ → ℕ → Bool
+rowInRange n s r c zero = true
+rowInRange n s r c (suc m) = entryInRange n s r c && rowInRange n s r (suc c) m
 
-unfoldable pub upperInRange : List ℤ → ℕ → ℕ → Bool
-upperInRange s r zero = true
-upperInRange s r (suc n) = rowInRange s r r (suc n) && upperInRange s (suc r) n
+unfoldable pub upperInRange : ℕ → List ℤ → ℕ → ℕ → Bool
+upperInRange n s r zero = true
+upperInRange n s r (suc m) = rowInRange n s r r (suc m) && upperInRange n s (suc r) m
 
--- n right-hand entries from r on
-unfoldable pub rightInRange : List ℤ → ℕ → ℕ → Bool
-rightInRange p r zero = true
-rightInRange p r (suc n) = productInRange (nth p (2 * r)) (nth p (2 * r + 1)) && rightInRange p (suc r) n
+-- m right-hand entries from r on
+unfoldable pub rightInRange : ℕ → List ℤ → ℕ → ℕ → Bool
+rightInRange n p r zero = true
+rightInRange n p r (suc m) = productInRange n (nth p (2 * r)) (nth p (2 * r + 1)) && rightInRange n p (suc r) m
 
+-- the training that would be one more than 4,194,304 is refused
 unfoldable pub sumsInRange : Sums → Bool
-sumsInRange s = leb (s .count) 4194304 && upperInRange (s .r) 0 11 && rightInRange (s .p) 0 11
+sumsInRange s = leb (s .count) 4194304 && upperInRange 4194304 (s .r) 0 11 && rightInRange 4194304 (s .p) 0 11
 
 -- what a training needs: room for one more, and entries that a product can be added to: those in range, also behind the trainings of a slot
 pub record SumsOk (s : Sums) : Type 0 where

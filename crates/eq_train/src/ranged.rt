@@ -1,5 +1,4 @@
 // For eq, which proves the ranges. The line is lent, newest symbol first.
-use crate::ranges;
 use fx::Parts;
 use sums::Sums;
 ghost use mathlib.Core.Path.{_≡_};
@@ -7,7 +6,7 @@ ghost use Prim.Native.Nat.{_+_, _*_, _-_, _≤_, _<_, _^_};
 ghost use lib.IntN.{natAbs, _+ℤ_};
 ghost use lib.ListN.{length};
 ghost use Rattle.eq_train.specs.Train.{conjProduct, rowProducts, upperProducts, rightProducts, trainedSums};
-ghost use Rattle.eq_train.specs.Ranges.{sumsInRange, SumsOk, upperInRange};
+ghost use Rattle.eq_train.specs.Ranges.{SumsOk};
 ghost use Rattle.eq_train.specs.Steps.{addedFrom, Room};
 
 // conj(a) times b.
@@ -101,27 +100,4 @@ pub fn train(s: Sums, line: &[i16; 22], di: i16, dq: i16) -> Sums
         r: r,
         p: p,
     }
-}
-
-pub fn in_range(s: Sums) -> bool
-    ensures { λ r. ⌜ r ≡ sumsInRange s ⌝ }
-{
-    let r = s.r;
-    let p = s.p;
-    (s.count <= 4194304) & upper_in_range(&r) & ranges::right_in_range(&p)
-}
-
-pub fn upper_in_range(s: &[i64; 132]) -> bool
-    ensures { λ v. ⌜ v ≡ upperInRange (now (s .entry)) 0 11 ⌝ }
-{
-    let mut all = true;
-    let mut r: usize = 0;
-    let mut at: usize = 0;
-    while r < 11 {
-        let one = ranges::row_in_range(s, r, at);
-        all = all & one;
-        at += 2 * (11 - r);
-        r += 1;
-    }
-    all
 }

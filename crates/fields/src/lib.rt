@@ -1,4 +1,5 @@
 // What the replay programs of calls of 24 numbers share: numbers as fields, flags, lent parts.
+pub mod plain;
 pub mod ranged;
 
 ghost use mathlib.Core.Path.{_≡_};

@@ -1,21 +1,13 @@
 // For programs, which prove that the bytes are there.
 ghost use mathlib.Core.Path.{_≡_};
-ghost use Prim.Native.Nat.{_+_, _≤_, _%_, _^_};
+ghost use Prim.Native.Nat.{_+_, _≤_};
 ghost use lib.ListN.{length};
-ghost use Rattle.wire.specs.Wire.{signed};
 ghost use Rattle.fields.specs.Fields.{onesAt, pairOf, pairAt};
 
 fn no_ones() -> [i8; 48]
     ensures { λ r. ⌜ length r ≡ 48 ⌝ }
 {
     [0; 48]
-}
-
-// A function, since a parameter has a range, which an element of a lent array has not.
-pub fn one(b: u8) -> i8
-    ensures { λ r. ⌜ r ≡ signed (2 ^ 7) (b % 2 ^ 8) ⌝ }
-{
-    wire::signed8(b as u64)
 }
 
 // The word of the 48 bytes from byte `from` on.
@@ -26,7 +18,7 @@ pub fn ones_at(bytes: &[u8; 192], from: usize) -> [i8; 48]
     let mut t = no_ones();
     let mut k: usize = 0;
     while k < 48 {
-        t[k] = one(bytes[from + k]);
+        t[k] = crate::plain::one(bytes[from + k]);
         k += 1;
     }
     t

@@ -43,7 +43,7 @@ unfoldable pub equalisedBy : Equalised → Symbol → Symbol
 equalisedBy NoOutput y = y
 equalisedBy (Output z) y = z
 
--- "with sums open, sync symbols train against word x 724": an aligned symbol m by its own place and word
+-- "With sums open, sync symbols train" against their word's entry times 724: an aligned symbol m by its own place and word
 unfoldable pub trainedPart : SlotPart → Equaliser → Meta → List ℤ → List ℤ → Equaliser
 trainedPart (Sync k) e m f s = let d = referenceOf (m .word) k f s in trainedEq e (d .i) (d .q)
 trainedPart (Pilot k) e m f s = e

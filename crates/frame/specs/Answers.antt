@@ -23,7 +23,7 @@ restartAnswer b = if backInRange b then record { refusal = 0; back = restartedBa
 unfoldable pub trainsBack : Back → Bool
 trainsBack b = leb 5 (b .metas .count) && isSync (partOf (b .metas .first .j)) && b .eq .opened && leb 11 (b .eq .filled + 1)
 
--- 8, "training count 4,194,304 before any addition the call would make"
+-- 8, "training count 4,194,304 .. before any addition the call would make"
 unfoldable pub fullBack : Back → Bool
 fullBack b = trainsBack b && leb 4194304 (b .eq .sums .count)
 

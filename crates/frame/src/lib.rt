@@ -1,5 +1,6 @@
 // The symbol alignment, after `Back::push` of chain/frame.rs: a corrected symbol goes in, the one five before it comes out, equalised, with its
 // own position, slot index, word and numbers. The state goes in by value and comes back.
+pub mod plain;
 pub mod ranged;
 mod refusals;
 
@@ -44,17 +45,17 @@ pub struct Pushed {
 pub fn new() -> Back
     ensures { λ r. ⌜ r ≡ newBack ⌝ }
 {
-    ranged::started(eq::new())
+    plain::started(eq::new())
 }
 
 // Line, waiting symbols and open sums dropped; the taps stay.
 pub fn restart(b: Back) -> Kept
     ensures { λ r. ⌜ r ≡ restartAnswer b ⌝ }
 {
-    if ranged::in_range(b) {
+    if plain::in_range(b) {
         Kept {
             refusal: 0,
-            back: ranged::restarted(b),
+            back: plain::restarted(b),
         }
     } else {
         Kept {

@@ -12,38 +12,8 @@ use phase::Corrected;
 ghost use mathlib.Core.Path.{_≡_};
 ghost use mathlib.Core.Bool.{true};
 ghost use Rattle.frame_line.specs.Ranges.{lastInRange};
-ghost use Rattle.frame.specs.Align.{startedBack, restartedBack, joinedTo, equalisedBy, trainedAt, takenBy, pushedBack};
-ghost use Rattle.frame.specs.Ranges.{backInRange, MetaOk, TakeOk, PushOk};
-
-pub fn started(e: Equaliser) -> Back
-    ensures { λ r. ⌜ r ≡ startedBack e ⌝ }
-{
-    Back {
-        eq: e,
-        metas: frame_line::ranged::none(),
-        last: LastAt::Never,
-    }
-}
-
-pub fn restarted(b: Back) -> Back
-    ensures { λ r. ⌜ r ≡ restartedBack b ⌝ }
-{
-    let e = b.eq;
-    let taps = e.taps;
-    let from = e.from;
-    started(eq::ranged::started(taps, from))
-}
-
-pub fn in_range(b: Back) -> bool
-    ensures { λ r. ⌜ r ≡ backInRange b ⌝ }
-{
-    let e = b.eq;
-    let w = b.metas;
-    let last = b.last;
-    eq::ranged::in_range(e)
-        & frame_line::ranged::in_range(w)
-        & frame_line::ranged::last_in_range(last)
-}
+ghost use Rattle.frame.specs.Align.{joinedTo, equalisedBy, trainedAt, takenBy, pushedBack};
+ghost use Rattle.frame.specs.Ranges.{MetaOk, TakeOk, PushOk};
 
 // The back that a symbol at this position joins: a gap restarts it.
 pub fn joined_to(b: Back, at: u64) -> Back
@@ -52,7 +22,7 @@ pub fn joined_to(b: Back, at: u64) -> Back
 {
     let last = b.last;
     if frame_line::ranged::gap(last, at) {
-        restarted(b)
+        crate::plain::restarted(b)
     } else {
         b
     }
@@ -88,9 +58,9 @@ fn taken(b: Back, c: Corrected, f: &[i8; 48], s: &[i8; 48]) -> Pushed
 {
     let y = c.y;
     let old = b.eq;
-    let e = eq::ranged::pushed(old, y.i, y.q);
+    let e = eq::plain::pushed(old, y.i, y.q);
     let w = b.metas;
-    let m = frame_line::ranged::meta_of(c);
+    let m = frame_line::plain::meta_of(c);
     if w.count < 5 {
         Pushed {
             refusal: 0,
@@ -103,12 +73,12 @@ fn taken(b: Back, c: Corrected, f: &[i8; 48], s: &[i8; 48]) -> Pushed
         }
     } else {
         let first = w.first;
-        let z = equalised(eq::ranged::output_of(e), y);
+        let z = equalised(eq::plain::output_of(e), y);
         Pushed {
             refusal: 0,
             back: Back {
                 eq: trained(e, first, f, s),
-                metas: frame_line::ranged::move_up(w, m),
+                metas: frame_line::plain::move_up(w, m),
                 last: LastAt::At(c.at),
             },
             out: Aligned::Given(AlignedSymbol { meta: first, z: z }),

@@ -1,5 +1,6 @@
 // Why a corrected symbol is refused.
 use crate::Back;
+use crate::plain;
 use crate::ranged;
 use phase::Corrected;
 ghost use mathlib.Core.Path.{_≡_};
@@ -18,11 +19,11 @@ fn full(b: Back) -> bool
 }
 
 // 2, an entry of a word; 6, the state, the slot index or the gain; 7, the position; 8, a full count.
-pub fn push(b: Back, c: Corrected, f: &[i8; 48], s: &[i8; 48]) -> u8
+pub(crate) fn push(b: Back, c: Corrected, f: &[i8; 48], s: &[i8; 48]) -> u8
     ensures { λ r. ⌜ r ≡ pushRefusal b c (now (f .entry)) (now (s .entry)) ⌝ }
 {
-    if sync_corr::ranged::ones(f) & sync_corr::ranged::ones(s) {
-        if ranged::in_range(b) & (c.j < 9296) & !fx::ranged::wide(c.gain) {
+    if sync_corr::plain::ones(f) & sync_corr::plain::ones(s) {
+        if plain::in_range(b) & (c.j < 9296) & !fx::plain::wide(c.gain) {
             if 4611686018427387904 <= c.at {
                 7
             } else if full(ranged::joined_to(b, c.at)) {

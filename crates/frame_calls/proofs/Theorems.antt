@@ -265,7 +265,7 @@ close-is e k =
 -- ---- the field `eq` replaced
 with-coherent : (b : Back) (e : Equaliser) → CoherentBack b → Coherent e → e .filled ≡ b .eq .filled → CoherentBack (withEq b e)
 unfolding withEq
-with-coherent b e k c h = record { eq = c; metas = k .metas; last = k .last; fill = omega (arith, k .fill, h); there = k .there }
+with-coherent b e k c h = record { eq = c; metas = k .metas; last = k .last; fill = omega (arith, k .fill, h); there = k .there; adjoin = k .adjoin }
 
 opened-tied : (b : Back) (h : Received) (frame : ℕ) → Tied b h → Tied (withEq b (withSums (b .eq) true (emptySums frame))) (heard h (opens frame))
 unfolding heard withEq withSums emptySums isOpen frameOf trainedSince begins

@@ -78,7 +78,7 @@ joining h c = if gapAt (lastOf (h .stretch)) (c .at) then dropped h else h
 unfoldable pub joinedBy : Received → Corrected → Received
 joinedBy h c = record { stretch = h .stretch ++ c ∷ []; sums = h .sums }
 
--- 8, "training count 4,194,304 before any addition the call would make" (Refusals)
+-- 8, "training count 4,194,304 .. before any addition the call would make" (Refusals)
 unfoldable pub fullFor : Received → Corrected → Bool
 fullFor h c = ltb (trainedSince h) (trainedSince (joinedBy h c)) && leb 4194304 (trainedSince h)
 

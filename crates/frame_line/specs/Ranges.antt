@@ -7,12 +7,13 @@ use Rattle.frame_line.specs.declared.Metas.{Metas}
 use Rattle.frame_line.specs.declared.LastAt.{LastAt}
 use Rattle.frame_line.specs.declared.LastAt.the-variants.{Never, At}
 
-unfoldable pub metaInRange : Meta → Bool
-metaInRange m = ltb (m .at) (2 ^ 62) && leb (m .j) 9295
+-- waiting symbols adjoin: k positions lie before that of place k
+unfoldable pub metaInRange : ℕ → Meta → Bool
+metaInRange k m = leb k (m .at) && ltb (m .at) (2 ^ 62) && leb (m .j) 9295
 
 -- place k is looked at if more than k wait
 unfoldable pub placeInRange : ℕ → ℕ → Meta → Bool
-placeInRange count k m = leb count k || metaInRange m
+placeInRange count k m = leb count k || metaInRange k m
 
 unfoldable pub metasInRange : Metas → Bool
 metasInRange w =

@@ -1,4 +1,5 @@
 // The symbols that wait for their equalised value, after `metas` and `last_at` of `Back` in chain/frame.rs.
+pub mod plain;
 pub mod ranged;
 
 use sync_heads::Slot;

@@ -35,7 +35,7 @@ pub fn part(j: usize) -> SlotPart
 pub fn reference(word: Word, k: usize, f: [i8; 48], s: [i8; 48]) -> Referred
     ensures { λ r. ⌜ r ≡ referenceAnswer word k f s ⌝ }
 {
-    if sync_corr::ranged::ones(&f) & sync_corr::ranged::ones(&s) {
+    if sync_corr::plain::ones(&f) & sync_corr::plain::ones(&s) {
         if k < 24 {
             Referred::Given(ranged::reference(word, k, &f, &s))
         } else {

@@ -24,7 +24,7 @@ fn behind(x: usize) -> SlotPart
     }
 }
 
-pub fn part(j: usize) -> SlotPart
+pub(crate) fn part(j: usize) -> SlotPart
     requires { ⌜ j < 9296 ⌝ }
     ensures { λ r. ⌜ r ≡ partOf j ⌝ }
 {

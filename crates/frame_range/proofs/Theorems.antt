@@ -1,7 +1,7 @@
 -- Calls keep what is true of an alignment from new on. Each statement stands above its proof. Assumes nothing.
 use Prim.Native.Nat.{ℕ, _+_, _*_, _^_, _≤_, _<_}
 use native.Mathlib.Omega.{arith}
-use mathlib.Core.Bool.{Bool, true, false, _&&_, _||_}
+use mathlib.Core.Bool.{Bool, true, false, not, _&&_, _||_}
 use mathlib.Core.List.{List, [], _∷_}
 use mathlib.Core.Path.{_≡_, refl, sym}
 use borrow.Author.Tests.{le-leb, lt-leb, leb-true, leb-false, eqb-true, eqb-false, lt-ltb, ltb-true, ltb-false}
@@ -11,7 +11,7 @@ use lib.ListN.{getD}
 use mir.Syntax.{w16}
 use mir.Val.{SFits}
 use Rattle.laws.specs.Choice.{if_then_else_}
-use Rattle.laws.proofs.Tests.{by-test, and-both, if-both}
+use Rattle.laws.proofs.Tests.{by-test, and-both, if-both, if-either}
 use Rattle.laws.proofs.Size.{Num, times, less, lit, fits}
 use Rattle.sync_corr.specs.Correlate.{onesOf}
 use Rattle.sync_heads.specs.declared.Word.{Word}
@@ -25,7 +25,8 @@ use Rattle.frame_map.specs.Reference.{scaledOf, referenceOf}
 use Rattle.frame_map.proofs.Laws.{part-sync, entry-one}
 use Rattle.frame_line.specs.declared.Meta.{Meta}
 use Rattle.frame_line.specs.declared.Metas.{Metas}
-use Rattle.frame_line.specs.declared.LastAt.the-variants.{At}
+use Rattle.frame_line.specs.declared.LastAt.{LastAt}
+use Rattle.frame_line.specs.declared.LastAt.the-variants.{Never, At}
 use Rattle.frame_line.specs.Line.{blank, noMetas, metaOf, placedAt, joined, moved, gapAt}
 use Rattle.frame_line.specs.Ranges.{metaInRange, placeInRange, metasInRange, lastInRange}
 use Rattle.frame.specs.declared.Back.{Back}
@@ -33,27 +34,39 @@ use Rattle.frame.specs.Align.{startedBack, newBack, restartedBack, joinedTo, tr
 use Rattle.frame.specs.Ranges.{backInRange, MetaOk, TakeOk}
 use Rattle.frame.specs.Answers.{pushRefusal, pushAnswer}
 use Rattle.frame.proofs.Laws.{untrained, accepted, push-ok}
-use Rattle.frame_range.specs.Coherent.{isThere, CoherentBack, Short, AllShort, none, also, backAfter}
+use Rattle.frame_range.specs.Coherent.{isThere, upTo, CoherentBack, Short, AllShort, none, also, backAfter}
+
+not-false : (t : Bool) → not t ≡ false → t ≡ true
+not-false true e = refl
+not-false false e = sym e
 
 -- ---- waiting symbols stay in range
 or-true : (t : Bool) → (t || true) ≡ true
 or-true true = refl
 or-true false = refl
 
-place-kept : (n k : ℕ) (m old : Meta) → metaInRange m ≡ true → placeInRange n k old ≡ true → placeInRange (n + 1) k (placedAt n k m old) ≡ true
+place-kept : (n k : ℕ) (m old : Meta) → metaInRange n m ≡ true → placeInRange n k old ≡ true → placeInRange (n + 1) k (placedAt n k m old) ≡ true
 unfolding placeInRange placedAt if_then_else_
 place-kept n k m old hm h =
-    by-test (eqb n k) (λ t. rw (t, hm) (or-true (leb (n + 1) k)))
+    by-test (eqb n k) (λ t. rw (t, rw (eqb-true n k t) at hm) (or-true (leb (n + 1) k)))
     (λ t.
     by-test (leb (n + 1) k) (λ u. rw (t, u))
     (λ u. rw (t, u) (rw (lt-leb n k (omega (arith, leb-false (n + 1) k u, eqb-false n k t))) at h)))
 
 -- a place that is looked at, and any place
-looked : (n k : ℕ) (m : Meta) → k < n → placeInRange n k m ≡ true → metaInRange m ≡ true
+looked : (n k : ℕ) (m : Meta) → k < n → placeInRange n k m ≡ true → metaInRange k m ≡ true
 unfolding placeInRange
 looked n k m l h = rw (lt-leb n k l) at h
 
-holds : (n k : ℕ) (m : Meta) → metaInRange m ≡ true → placeInRange n k m ≡ true
+-- a symbol of one place stands well at the place before
+earlier : (k : ℕ) (m : Meta) → metaInRange (k + 1) m ≡ true → metaInRange k m ≡ true
+unfolding metaInRange
+earlier k m h =
+    let a = and-both (leb (k + 1) (m .at) && ltb (m .at) (2 ^ 62)) (leb (m .j) 9295) h in
+    let b = and-both (leb (k + 1) (m .at)) (ltb (m .at) (2 ^ 62)) (a .0) in
+    rw (le-leb k (m .at) (omega (arith, leb-true (k + 1) (m .at) (b .0))), b .1, a .1)
+
+holds : (n k : ℕ) (m : Meta) → metaInRange k m ≡ true → placeInRange n k m ≡ true
 unfolding placeInRange
 holds n k m h = rw h (or-true (leb n k))
 
@@ -86,7 +99,7 @@ placed : (w : Metas) → Places w → metasInRange w ≡ true
 unfolding metasInRange
 placed w p = rw (le-leb (w .count) 5 (p .count), p .first, p .second, p .third, p .fourth, p .fifth)
 
-joined-kept : (w : Metas) (m : Meta) → metaInRange m ≡ true → metasInRange w ≡ true → w .count < 5 → metasInRange (joined w m) ≡ true
+joined-kept : (w : Metas) (m : Meta) → metaInRange (w .count) m ≡ true → metasInRange w ≡ true → w .count < 5 → metasInRange (joined w m) ≡ true
 unfolding joined
 joined-kept w m hm h l =
     let p = places w h in
@@ -101,7 +114,7 @@ joined-kept w m hm h l =
       fifth = place-kept n 4 m (w .fifth) hm (p .fifth);
     })
 
-moved-kept : (w : Metas) (m : Meta) → metaInRange m ≡ true → metasInRange w ≡ true → 5 ≤ w .count → metasInRange (moved w m) ≡ true
+moved-kept : (w : Metas) (m : Meta) → metaInRange 4 m ≡ true → metasInRange w ≡ true → 5 ≤ w .count → metasInRange (moved w m) ≡ true
 unfolding moved
 moved-kept w m hm h l =
     let p = places w h in
@@ -109,10 +122,10 @@ moved-kept w m hm h l =
     placed (moved w m)
     (record {
       count = p .count;
-      first = holds n 0 (w .second) (looked n 1 (w .second) (omega (arith, l)) (p .second));
-      second = holds n 1 (w .third) (looked n 2 (w .third) (omega (arith, l)) (p .third));
-      third = holds n 2 (w .fourth) (looked n 3 (w .fourth) (omega (arith, l)) (p .fourth));
-      fourth = holds n 3 (w .fifth) (looked n 4 (w .fifth) (omega (arith, l)) (p .fifth));
+      first = holds n 0 (w .second) (earlier 0 (w .second) (looked n 1 (w .second) (omega (arith, l)) (p .second)));
+      second = holds n 1 (w .third) (earlier 1 (w .third) (looked n 2 (w .third) (omega (arith, l)) (p .third)));
+      third = holds n 2 (w .fourth) (earlier 2 (w .fourth) (looked n 3 (w .fourth) (omega (arith, l)) (p .fourth)));
+      fourth = holds n 3 (w .fifth) (earlier 3 (w .fifth) (looked n 4 (w .fifth) (omega (arith, l)) (p .fifth)));
       fifth = holds n 4 m hm;
     })
 
@@ -153,17 +166,31 @@ trained-filled e m f s =
 
 -- ---- starts
 pub restarted-coherent : (b : Back) → CoherentBack (restartedBack b)
-unfolding restartedBack startedBack startedEq noMetas blank metasInRange placeInRange metaInRange lastInRange isThere
-restarted-coherent b = record { eq = started-coherent (b .eq .taps) (b .eq .from); metas = refl; last = refl; fill = omega arith; there = refl }
+unfolding restartedBack startedBack startedEq noMetas blank metasInRange placeInRange metaInRange lastInRange isThere upTo
+restarted-coherent b = record { eq = started-coherent (b .eq .taps) (b .eq .from); metas = refl; last = refl; fill = omega arith; there = refl; adjoin = omega arith }
 
 joined-coherent : (b : Back) (at : ℕ) → CoherentBack b → CoherentBack (joinedTo b at)
 unfolding joinedTo
 joined-coherent b at c = if-both CoherentBack (gapAt (b .last) at) (restartedBack b) b (restarted-coherent b) c
 
 -- ---- one symbol
-taken-coherent : (b : Back) (c : Corrected) (f s : List ℤ) → CoherentBack b → Short c → metaInRange (metaOf c) ≡ true → lastInRange (At (c .at)) ≡ true → TakeOk b c f s → CoherentBack (takenBy b c f s .back)
-unfolding takenBy joined moved pushedEq if_then_else_ isThere
-taken-coherent b c f s k y hm hl ok =
+waits : (k : ℕ) (c : Corrected) → k ≤ c .at → leb (c .j) 9295 ≡ true → lastInRange (At (c .at)) ≡ true → metaInRange k (metaOf c) ≡ true
+unfolding metaInRange metaOf lastInRange
+waits k c a j l = rw (le-leb k (c .at) a, j, l)
+
+-- a symbol that adjoins has all that wait before it
+joined-before : (b : Back) (at : ℕ) → CoherentBack b → joinedTo b at .metas .count ≤ at
+unfolding joinedTo restartedBack startedBack noMetas
+joined-before b at k = if-either (λ (x : Back). x .metas .count ≤ at) (gapAt (b .last) at) _ b (λ t. omega arith) (λ t. before (b .last) (k .adjoin) t)
+  where
+    before : (l : LastAt) → b .metas .count ≤ upTo l → gapAt l at ≡ false → b .metas .count ≤ at
+    unfolding upTo gapAt
+    before Never h t = omega (arith, h)
+    before (At a) h t = omega (arith, h, eqb-true (a + 1) at (not-false (eqb (a + 1) at) t))
+
+taken-coherent : (b : Back) (c : Corrected) (f s : List ℤ) → CoherentBack b → Short c → b .metas .count ≤ c .at → leb (c .j) 9295 ≡ true → lastInRange (At (c .at)) ≡ true → TakeOk b c f s → CoherentBack (takenBy b c f s .back)
+unfolding takenBy joined moved pushedEq if_then_else_ isThere upTo
+taken-coherent b c f s k y ha hj hl ok =
     let e = pushedEq (b .eq) (c .y .i) (c .y .q) in
     let ce : Coherent e = pushed-coherent (b .eq) (c .y .i) (c .y .q) (k .eq) (y .i) (y .q) in
     by-test (ltb (b .metas .count) 5)
@@ -172,32 +199,34 @@ taken-coherent b c f s k y hm hl ok =
     rw t
     (record {
       eq = ce;
-      metas = joined-kept (b .metas) (metaOf c) hm (k .metas) l;
+      metas = joined-kept (b .metas) (metaOf c) (waits (b .metas .count) c ha hj hl) (k .metas) l;
       last = hl;
       fill = omega (arith, l, k .fill);
       there = sym (lt-ltb _ (b .metas .count + 1) (omega arith));
+      adjoin = omega (arith, ha);
     }))
     (λ t.
     let l = ltb-false (b .metas .count) 5 t in
     rw t
     (record {
       eq = trained-kept e (b .metas .first) f s ce (ok .aligned l);
-      metas = moved-kept (b .metas) (metaOf c) hm (k .metas) l;
+      metas = moved-kept (b .metas) (metaOf c) (waits 4 c (omega (arith, ha, l)) hj hl) (k .metas) l;
       last = hl;
       fill = rw (trained-filled e (b .metas .first) f s) (omega (arith, k .fill, places (b .metas) (k .metas) .count));
       there = sym (lt-ltb 0 (b .metas .count) (omega (arith, l)));
+      adjoin = omega (arith, ha);
     }))
 
 below : (n m : ℕ) → leb m n ≡ false → ltb n m ≡ true
 below n m h = lt-ltb n m (leb-false m n h)
 
 pushed-coherent-back : (b : Back) (c : Corrected) (f s : List ℤ) → CoherentBack b → Short c → pushRefusal b c f s ≡ 0 → CoherentBack (pushedBack b c f s .back)
-unfolding pushedBack metaInRange metaOf lastInRange
+unfolding pushedBack lastInRange
 pushed-coherent-back b c f s k y h =
     let a = accepted b c f s h in
     let t : ltb (c .at) (2 ^ 62) ≡ true = below (c .at) (2 ^ 62) (a .before) in
     let j : leb (c .j) 9295 ≡ true = le-leb (c .j) 9295 (omega (arith, ltb-true (c .j) 9296 (a .place))) in
-    taken-coherent (joinedTo b (c .at)) c f s (joined-coherent b (c .at) k) y (rw (t, j)) t (push-ok b c f s h .taken)
+    taken-coherent (joinedTo b (c .at)) c f s (joined-coherent b (c .at) k) y (joined-before b (c .at) k) j t (push-ok b c f s h .taken)
 
 -- ---- EVERY PUSH KEEPS IT, a refused one too; over any list of pushes with the same words
 pub push-keeps : (b : Back) (c : Corrected) (f s : List ℤ) → CoherentBack b → Short c → CoherentBack (pushAnswer b c f s .back)

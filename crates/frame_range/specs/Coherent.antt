@@ -1,5 +1,5 @@
 -- What is true together of the numbers of an alignment that came from calls: docs/RANGES.md, "Alignment".
-use Prim.Native.Nat.{_≤_}
+use Prim.Native.Nat.{ℕ, _+_, _≤_}
 use mathlib.Core.Bool.{Bool, true, false}
 use mathlib.Core.List.{List, [], _∷_}
 use mathlib.Core.Path.{_≡_}
@@ -19,6 +19,11 @@ unfoldable pub isThere : LastAt → Bool
 isThere Never = false
 isThere (At a) = true
 
+-- how many positions there are up to the last
+unfoldable pub upTo : LastAt → ℕ
+upTo Never = 0
+upTo (At a) = a + 1
+
 pub record CoherentBack (b : Back) : Type 0 where
   pub eq : Coherent (b .eq)
   pub metas : metasInRange (b .metas) ≡ true
@@ -27,6 +32,8 @@ pub record CoherentBack (b : Back) : Type 0 where
   pub fill : b .metas .count ≤ b .eq .filled
   -- the last position is there exactly if symbols wait
   pub there : isThere (b .last) ≡ ltb 0 (b .metas .count)
+  -- those that wait stand one behind another, the newest at the last position
+  pub adjoin : b .metas .count ≤ upTo (b .last)
 
 -- a corrected symbol's value is of 16 bits
 pub record Short (c : Corrected) : Type 0 where

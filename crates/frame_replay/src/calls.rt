@@ -13,7 +13,7 @@ ghost use Rattle.frame_replay.specs.Calls.{noMeta, plain, outTold, eqCal
 fn no_meta() -> Meta
     ensures { λ r. ⌜ r ≡ noMeta ⌝ }
 {
-    let w = frame_line::ranged::none();
+    let w = frame_line::plain::none();
     w.first
 }
 
@@ -108,7 +108,7 @@ pub(crate) fn move_up(k: Kept, p: &[u64; 24]) -> Turn
     let last = b.last;
     let oldest = w.first;
     let m = frame_wire::ranged::meta_at(p, 1);
-    let n = kept::with_line(k, frame_line::ranged::move_up(w, m), last);
+    let n = kept::with_line(k, frame_line::plain::move_up(w, m), last);
     let t = told::told(n, 0, 1, oldest, 0, 0);
     kept::turned(n, t)
 }

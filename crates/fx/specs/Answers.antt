@@ -59,7 +59,7 @@ cordicAnswer re im = if outside re || outside im then TurnedRefused 6 else To (c
 unfoldable pub cordicScaleAnswer : ℤ → ℤ → Scaled
 cordicScaleAnswer re im = if wide re || wide im then ScaledRefused 6 else By (cordicScale re im)
 
--- "carrier table: not 1,024 i16"
+-- 3, the carrier table is "not 1,024 i16"
 unfoldable pub cosSinTruncAnswer : List ℤ → ℕ → Phasor
 cosSinTruncAnswer table angle = if eqb (length table) 1024 then At (cosSinAt table (truncIndex angle)) else PhasorRefused 3
 

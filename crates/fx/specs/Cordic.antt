@@ -52,6 +52,6 @@ unfoldable pub cordicSteps : ℕ → Turn → Turn
 cordicSteps zero t = t
 cordicSteps (suc i) t = cordicStep (cordicSteps i t) i (getD cordicAngles i 0)
 
--- the angle turned by, and x times 39,797, rounded down by 16 + 8 bits
+-- the angle turned by, and x times 39,797 over 2^(16 + 8), rounded
 unfoldable pub cordicOf : ℤ → ℤ → Polar
 cordicOf re im = let t = cordicSteps 16 (cordicStart re im) in record { angle = t .z; size = roundShift (t .x *ℤ pos 39797) 24 }

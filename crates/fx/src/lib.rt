@@ -1,5 +1,6 @@
 // Fixed-point arithmetic, after chain/fx.rs. Each function here takes any arguments and answers the value or document 01's refusal
 // number. `ranged` has the plain values, for crates that prove the range themselves.
+pub mod plain;
 pub mod ranged;
 mod sizes;
 mod turns;
@@ -98,7 +99,7 @@ pub fn sat16(v: i64) -> Whole16
     if sizes::wide(v) {
         Whole16::Refused(6)
     } else {
-        Whole16::Value(ranged::sat16(v))
+        Whole16::Value(plain::sat16(v))
     }
 }
 
@@ -109,7 +110,7 @@ pub fn sat127(v: i64) -> Whole8
     if sizes::wide(v) {
         Whole8::Refused(6)
     } else {
-        Whole8::Value(ranged::sat127(v))
+        Whole8::Value(plain::sat127(v))
     }
 }
 

@@ -9,16 +9,8 @@ ghost use lib.IntN.{pos, natAbs};
 ghost use lib.ListN.{length};
 ghost use lib.Signed.{ltZ};
 ghost use mathlib.Core.Bool.{false};
-ghost use Rattle.fx.specs.Fx.{roundShift, divRound, magApprox, sat16Of, sat127Of, roundIndex, cosSinAt};
+ghost use Rattle.fx.specs.Fx.{roundShift, divRound, magApprox, roundIndex, cosSinAt};
 ghost use Rattle.fx.specs.Cordic.{cordicOf};
-ghost use Rattle.fx.specs.Answers.{wide};
-
-// Of size over 2^60: document 01's test of a wide argument.
-pub fn wide(v: i64) -> bool
-    ensures { λ r. ⌜ r ≡ wide v ⌝ }
-{
-    sizes::wide(v)
-}
 
 pub fn round_shift(v: i64, s: u32) -> i64
     requires { ⌜ (natAbs v ≤ 2 ^ 60) × (s ≤ 60) ⌝ }
@@ -36,30 +28,6 @@ pub fn div_round(a: i64, b: i64) -> i64
     ensures { λ r. ⌜ r ≡ divRound a b ⌝ }
 {
     sizes::floor_div(a + a + b, 2 * sizes::size(b))
-}
-
-pub fn sat16(v: i64) -> i16
-    ensures { λ r. ⌜ r ≡ sat16Of v ⌝ }
-{
-    if v < -32768 {
-        -32768
-    } else if 32767 < v {
-        32767
-    } else {
-        v as i16
-    }
-}
-
-pub fn sat127(v: i64) -> i8
-    ensures { λ r. ⌜ r ≡ sat127Of v ⌝ }
-{
-    if v < -127 {
-        -127
-    } else if 127 < v {
-        127
-    } else {
-        v as i8
-    }
 }
 
 pub fn mag_approx(re: i64, im: i64) -> i64

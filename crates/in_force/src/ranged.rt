@@ -7,7 +7,7 @@ ghost use Prim.Native.Nat.{_≤_, _^_};
 ghost use lib.IntN.{natAbs};
 ghost use lib.ListN.{length};
 ghost use Rattle.learn.specs.Ranges.{LearnOk};
-ghost use Rattle.in_force.specs.InForce.{setFlags, slicesLearned, noiseAfter, renewedOf, forceInRange};
+ghost use Rattle.in_force.specs.InForce.{setFlags, slicesLearned, noiseAfter, renewedOf};
 
 // Each learned set's points into their part of the slice, and which sets these are.
 fn all_pointed(l: Learn, learned: &mut [i16]) -> [bool; 5]
@@ -35,7 +35,7 @@ fn noise_after(l: Learn, old: i64) -> i64
     }
 }
 
-pub fn renewed(f: InForce, l: Learn, frame: u32, learned: &mut [i16]) -> InForce
+pub(crate) fn renewed(f: InForce, l: Learn, frame: u32, learned: &mut [i16]) -> InForce
     requires { ⌜ (natAbs (f .n0) ≤ 2 ^ 34) × (LearnOk l) × (length (now learned) ≡ 124) ⌝ }
     ensures { λ r. ⌜ (r ≡ renewedOf f l frame) × (now (learned .exit) ≡ slicesLearned l 5 (now (learned .entry))) ⌝ }
 {
@@ -48,10 +48,4 @@ pub fn renewed(f: InForce, l: Learn, frame: u32, learned: &mut [i16]) -> InForce
         k: k,
         from: Source::Frame(frame),
     }
-}
-
-pub fn in_range(f: InForce) -> bool
-    ensures { λ r. ⌜ r ≡ forceInRange f ⌝ }
-{
-    (-8589934592 <= f.n0) & (f.n0 <= 10737418240) & (0 <= f.k) & (f.k <= 16777216)
 }

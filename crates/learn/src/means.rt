@@ -12,7 +12,7 @@ fn mean(sum: i64, count: u32) -> i16
     requires { ⌜ (natAbs sum ≤ 2 ^ 41) × (0 < count) ⌝ }
     ensures { λ r. ⌜ r ≡ meanOf sum count ⌝ }
 {
-    fx::ranged::sat16(fx::ranged::div_round(sum, count as i64))
+    fx::plain::sat16(fx::ranged::div_round(sum, count as i64))
 }
 
 // Each of the n labels from place a on has a pilot.

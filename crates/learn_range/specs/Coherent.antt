@@ -1,4 +1,4 @@
--- What is true together of the numbers of a `Learn` that came from calls: docs/RANGES.md, "Learning", "jointly".
+-- What is true together of the numbers of a `Learn` that came from calls: docs/RANGES.md, under Learning, what is told jointly.
 use mathlib.Core.Path.{_≡_}
 use Prim.Native.Nat.{ℕ, _+_, _-_, _*_, _/_, _^_, _≤_, _<_}
 use lib.IntN.{ℤ, pos}

@@ -1,5 +1,6 @@
 // The slot correction, after chain/phase.rs: each symbol of a slot divided by the carrier phase and amplitude between the slot's head and the
 // next. The state goes in by value and comes back; the slot store, 9,296 pairs, and the carrier table are lent.
+pub mod plain;
 pub mod ranged;
 mod refusals;
 
@@ -69,7 +70,7 @@ pub struct Headed {
 pub fn gain_of(amp: i64) -> Whole
     ensures { λ r. ⌜ r ≡ gainAnswer amp ⌝ }
 {
-    if fx::ranged::wide(amp) {
+    if fx::plain::wide(amp) {
         Whole::Refused(6)
     } else {
         Whole::Value(ranged::gain_of(amp))
@@ -86,7 +87,7 @@ pub fn new() -> SlotPhase
 pub fn restart(s: SlotPhase) -> Kept
     ensures { λ r. ⌜ r ≡ restartAnswer s ⌝ }
 {
-    if ranged::in_range(s) {
+    if plain::in_range(s) {
         Kept {
             refusal: 0,
             phase: SlotPhase::Idle,
@@ -125,7 +126,7 @@ pub fn head(s: SlotPhase, h: Head) -> Headed
     if n == 0 {
         Headed {
             refusal: 0,
-            phase: ranged::begun(h),
+            phase: plain::begun(h),
             due: ranged::due(s, h),
         }
     } else {

@@ -10,10 +10,10 @@ ghost use mathlib.Core.Path.{_≡_};
 ghost use Prim.Native.Nat.{_+_, _≤_, _<_, _^_};
 ghost use lib.IntN.{natAbs};
 ghost use lib.ListN.{length};
-ghost use Rattle.phase.specs.Phase.{gainOf, perSymbol, wholeOf, dueOf, begunOf, pushedOf, storedOf, phaseAt, gainAt, scaledOf, correctedOf};
-ghost use Rattle.phase.specs.Ranges.{phaseInRange, heldInRange, HeadOk, PhaseOk, WholeOk};
+ghost use Rattle.phase.specs.Phase.{gainOf, perSymbol, wholeOf, dueOf, pushedOf, storedOf, phaseAt, gainAt, scaledOf, correctedOf};
+ghost use Rattle.phase.specs.Ranges.{HeadOk, PhaseOk, WholeOk};
 
-pub fn gain_of(amp: i64) -> i64
+pub(crate) fn gain_of(amp: i64) -> i64
     requires { ⌜ natAbs amp ≤ 2 ^ 60 ⌝ }
     ensures { λ r. ⌜ (r ≡ gainOf amp) × (natAbs r ≤ 71179699) ⌝ }
 {
@@ -41,7 +41,7 @@ fn whole(a: Head, b: Head) -> WholeSlot
     WholeSlot {
         head: a,
         next: b,
-        delta: per_symbol(angles::ranged::turn_from(a.theta, b.theta)),
+        delta: per_symbol(angles::plain::turn_from(a.theta, b.theta)),
         gain: ga,
         gamma: per_symbol(gb - ga),
     }
@@ -63,13 +63,6 @@ pub fn due(s: SlotPhase, h: Head) -> Due
             }
         }
     }
-}
-
-// A head's slot, of which no symbol came yet.
-pub fn begun(h: Head) -> SlotPhase
-    ensures { λ r. ⌜ r ≡ begunOf h ⌝ }
-{
-    SlotPhase::Holds(Held { head: h, count: 0 })
 }
 
 // One symbol into the store, and counted; past the 9,296th, or with no slot held, it is ignored.
@@ -121,8 +114,8 @@ fn scaled(table: &[i16], phi: u32, gain: i64, i: i16, q: i16) -> Symbol
     let re = u.re;
     let im = u.im;
     Symbol {
-        i: fx::ranged::sat16(fx::ranged::round_shift(re * gain, 17)),
-        q: fx::ranged::sat16(fx::ranged::round_shift(im * gain, 17)),
+        i: fx::plain::sat16(fx::ranged::round_shift(re * gain, 17)),
+        q: fx::plain::sat16(fx::ranged::round_shift(im * gain, 17)),
     }
 }
 
@@ -146,21 +139,5 @@ pub fn corrected(s: WholeSlot, j: usize, table: &[i16], store: &[i16]) -> Correc
         phi: phi,
         gain: gain,
         y: scaled(table, phi, gain, i, q),
-    }
-}
-
-fn held_in_range(x: Held) -> bool
-    ensures { λ r. ⌜ r ≡ heldInRange x ⌝ }
-{
-    let h = x.head;
-    !fx::ranged::wide(h.amp) & (h.at < 0x4000_0000_0000_0000) & (x.count <= 9296)
-}
-
-pub fn in_range(s: SlotPhase) -> bool
-    ensures { λ r. ⌜ r ≡ phaseInRange s ⌝ }
-{
-    match s {
-        SlotPhase::Idle => true,
-        SlotPhase::Holds(x) => held_in_range(x),
     }
 }

@@ -2,7 +2,7 @@
 use crate::Held;
 use crate::SlotPhase;
 use crate::WholeSlot;
-use crate::ranged;
+use crate::plain;
 use sync_heads::Head;
 ghost use mathlib.Core.Path.{_≡_};
 ghost use Prim.Native.Nat.{_+_, _^_};
@@ -48,7 +48,7 @@ pub(crate) fn push(s: SlotPhase, len: usize) -> u8
     ensures { λ r. ⌜ r ≡ pushRefusal s len ⌝ }
 {
     if len == 18592 {
-        if ranged::in_range(s) {
+        if plain::in_range(s) {
             if past_end(s) { 7 } else { 0 }
         } else {
             6
@@ -61,8 +61,8 @@ pub(crate) fn push(s: SlotPhase, len: usize) -> u8
 pub(crate) fn head(s: SlotPhase, h: Head) -> u8
     ensures { λ r. ⌜ r ≡ headRefusal s h ⌝ }
 {
-    if ranged::in_range(s) {
-        if fx::ranged::wide(h.amp) {
+    if plain::in_range(s) {
+        if fx::plain::wide(h.amp) {
             6
         } else if 0x4000_0000_0000_0000 <= h.at {
             7
@@ -82,8 +82,8 @@ fn whole_in_range(s: WholeSlot) -> bool
     let m = s.gamma;
     let a = s.head;
     let b = s.next;
-    !fx::ranged::wide(a.amp)
-        & !fx::ranged::wide(b.amp)
+    !fx::plain::wide(a.amp)
+        & !fx::plain::wide(b.amp)
         & (-15139574784 <= d)
         & (d <= 15139574777)
         & (0 <= g)

@@ -29,7 +29,7 @@ fn rotate_all(n: Nco, xs: &[i8], table: &[i16], out: &mut [i16]) -> Nco
         let q = x.q;
         out[2 * k] = i;
         out[2 * k + 1] = q;
-        r = carrier::ranged::advanced(r);
+        r = carrier::plain::advanced(r);
         k += 1;
     }
     r
@@ -42,7 +42,7 @@ pub extern "C" fn measure_rotate(freq: i32, xs: &[i8], table: &[i16], out: &mut 
     ensures { λ r. ⌜ (r ≡ rotatedPhase freq (now (xs .entry)) (now (table .entry)) (now (out .entry))) × (now (out .exit) ≡ rotatedOut freq (now (xs .entry)) (now (table .entry)) (now (out .entry))) ⌝ }
 {
     if (table.len() == 1024) & (xs.len() <= out.len()) {
-        let n = carrier::ranged::started(0, freq);
+        let n = carrier::plain::started(0, freq);
         let r = rotate_all(n, xs, table, out);
         r.phase
     } else {

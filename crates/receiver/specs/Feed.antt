@@ -1,4 +1,4 @@
--- `feed`: many symbols of a lent byte slice in one call, "the symbol call's, repeated". It stops after the first symbol that answers anything, before one that
+-- `feed`: many symbols of a lent byte slice in one call: the symbol call, repeated. It stops after the first symbol that answers anything, before one that
 -- would be refused, or at the slice's end, and tells how many it used.
 use Prim.Native.Nat.{ℕ, zero, suc, _+_, _*_, _/_}
 use mathlib.Core.Bool.{Bool, not, _&&_, _||_}
@@ -60,8 +60,8 @@ fedFrom b (suc k) i r l =
     then if tellsAny a then record { used = i + 1; receiver = a .receiver; lent = m; events = a .events; runs = a .runs } else on
     else quietAt i r l
 
--- ---- refusals: 1, 2, 3 and 6 as a symbol's, with no symbol too; 7 and 8 if the first symbol would be refused so. "A refusal is answered only with 0 symbols used
--- and nothing changed."
+-- ---- refusals: 1, 2, 3 and 6 as a symbol's, with no symbol too; 7 and 8 if the first symbol would be refused so. A
+-- refusal is answered only where no symbol was used and nothing changed.
 unfoldable pub standingRefusal : Receiver → Block → Lent → ℕ
 standingRefusal r b l =
     if storesFit l then if onesOf (b .f) && onesOf (b .s) then if eqb (length (b .table)) 1024 then if receiverInRange r then 0 else 6 else 3 else 2 else 1

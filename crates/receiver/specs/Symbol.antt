@@ -64,7 +64,7 @@ module _ (n : ℕ) (r : Receiver) (x : Input) (l : Lent) where
   unfoldable pub syncLeft : SlotSync
   syncLeft = record { win = keptWindow (synced .stores) window; run = synced .run }
 
-  -- "each head to `Nco`, then `SlotPhase`"; the carrier has "used its phase, then advanced it"
+  -- "each head to `Nco`, then `SlotPhase`"; before that it "uses its phase, then advances it"
   unfoldable pub heads : Listened
   heads = listened n (record { nco = advancedNco (r .front .nco); phase = r .front .phase; due = NoSlot }) (synced .events)
 

@@ -1,6 +1,6 @@
 // The receiver: the stages wired as document 01, "The receiver", says. What each call means stands in specs/.
 mod loads;
-pub mod ranged;
+pub mod plain;
 mod refusals;
 mod starts;
 pub mod told;
@@ -76,9 +76,9 @@ pub struct Ended {
 pub fn new(at: u64, step: i32, acc: &mut [u32]) -> Answered
     ensures { λ r. ⌜ (r ≡ newAnswer at step (now (acc .entry))) × (now (acc .exit) ≡ newAcc (now (acc .entry))) ⌝ }
 {
-    let r = ranged::started(at, starts::new_kept(step));
+    let r = plain::started(at, starts::new_kept(step));
     if acc.len() == 9296 {
-        sync::ranged::clear(acc);
+        sync::plain::clear(acc);
         Answered {
             refusal: 0,
             receiver: r,
@@ -114,7 +114,7 @@ pub fn load_taps(r: Receiver, taps: [i16; 22], frame: u32) -> Answered
     ensures { λ a. ⌜ a ≡ tapsAnswer r taps frame ⌝ }
 {
     let e = r.back.eq;
-    loads::eq_answer(r, eq::ranged::loaded(e, taps, frame))
+    loads::eq_answer(r, eq::plain::loaded(e, taps, frame))
 }
 
 // The receiver started anew at a position, not before the next symbol's, with its kept values.
@@ -123,10 +123,10 @@ pub fn restart(r: Receiver, at: u64, acc: &mut [u32]) -> Answered
 {
     let n = refusals::restart(r, at, acc.len());
     if n == 0 {
-        sync::ranged::clear(acc);
+        sync::plain::clear(acc);
         Answered {
             refusal: 0,
-            receiver: ranged::started(at, ranged::kept_of(r)),
+            receiver: plain::started(at, plain::kept_of(r)),
         }
     } else {
         Answered {
@@ -141,7 +141,7 @@ pub fn open_sums(r: Receiver, frame: u32) -> Answered
     ensures { λ a. ⌜ a ≡ openAnswer r frame ⌝ }
 {
     let e = r.back.eq;
-    loads::eq_answer(r, eq::ranged::with_sums(e, true, sums::new(frame)))
+    loads::eq_answer(r, eq::plain::with_sums(e, true, sums::new(frame)))
 }
 
 // The open sums, which are then closed.
@@ -149,14 +149,14 @@ pub fn end_sums(r: Receiver) -> Ended
     ensures { λ a. ⌜ a ≡ endAnswer r ⌝ }
 {
     let none = sums::new(0);
-    if ranged::receiver_within(r) {
+    if plain::receiver_within(r) {
         let e = r.back.eq;
         let opened = e.opened;
         let s = e.sums;
         if opened {
             Ended {
                 refusal: 0,
-                receiver: loads::with_eq(r, eq::ranged::with_sums(e, false, none)),
+                receiver: loads::with_eq(r, eq::plain::with_sums(e, false, none)),
                 ended: true,
                 sums: s,
             }

@@ -1,7 +1,7 @@
 // What loads and training calls leave.
 use crate::Answered;
 use crate::Receiver;
-use crate::ranged;
+use crate::plain;
 use eq::Equaliser;
 use frame::Back;
 use receiver_slot::Points;
@@ -72,7 +72,7 @@ pub(crate) fn with_eq(r: Receiver, e: Equaliser) -> Receiver
 pub(crate) fn eq_answer(r: Receiver, e: Equaliser) -> Answered
     ensures { λ a. ⌜ a ≡ eqAnswer r e ⌝ }
 {
-    if ranged::receiver_within(r) {
+    if plain::receiver_within(r) {
         Answered {
             refusal: 0,
             receiver: with_eq(r, e),

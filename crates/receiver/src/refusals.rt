@@ -1,6 +1,6 @@
 // 0, or why a call is refused: in the order of document 01's table.
 use crate::Receiver;
-use crate::ranged;
+use crate::plain;
 ghost use mathlib.Core.Path.{_≡_};
 ghost use Rattle.demap.specs.Answers.{badPoints, badScale};
 ghost use Rattle.receiver.specs.Answers.{pointsRefusal, restartRefusal};
@@ -30,7 +30,7 @@ pub(crate) fn load_points(r: Receiver, bits: u8, len: usize, k: i64) -> u8
         4
     } else if bad_scale(k) {
         5
-    } else if ranged::receiver_within(r) {
+    } else if plain::receiver_within(r) {
         0
     } else {
         6
@@ -41,9 +41,9 @@ pub(crate) fn restart(r: Receiver, at: u64, len: usize) -> u8
     ensures { λ n. ⌜ n ≡ restartRefusal r at len ⌝ }
 {
     if len == 9296 {
-        if ranged::receiver_within(r) {
+        if plain::receiver_within(r) {
             let y = r.front.sync.run;
-            if sync::ranged::before(at, y.base, y.t) {
+            if sync::plain::before(at, y.base, y.t) {
                 7
             } else {
                 0

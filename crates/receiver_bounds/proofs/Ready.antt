@@ -9,7 +9,7 @@ use borrow.Author.Tests.{eqb-true, le-leb, leb-true, lt-ltb}
 use lib.Dec.{eqb, leb}
 use lib.IntN.{ℤ, pos, negsuc, natAbs}
 use lib.Signed.{leZ}
-use Rattle.laws.specs.Choice.{if_then_else_, if-yes}
+use Rattle.laws.specs.Choice.{if_then_else_, if-yes, minus}
 use Rattle.laws.proofs.Tests.{and-both, by-test, never}
 use Rattle.sync_corr.specs.declared.Corr.{Corr}
 use Rattle.sync_lock.specs.declared.Tally.{Tally}
@@ -20,6 +20,10 @@ use Rattle.sync_heads.specs.declared.Stage.the-variants.{Before, First, Known}
 use Rattle.sync_heads.specs.Ranges.{bothInRange, corrInRange, courseInRange, readingInRange, slotInRange, stageInRange}
 use Rattle.sync_step.specs.declared.Run.{Run}
 use Rattle.sync_step.specs.Ranges.{runInRange}
+use Rattle.carrier.specs.declared.Nco.{Nco}
+use Rattle.carrier.specs.declared.Trail.{Trail}
+use Rattle.carrier.specs.declared.Trail.the-variants.{Empty, Since}
+use Rattle.carrier.specs.Ranges.{ncoInRange, stepsInRange, trailInRange}
 use Rattle.phase.specs.declared.SlotPhase.{SlotPhase}
 use Rattle.phase.specs.declared.SlotPhase.the-variants.{Idle, Holds}
 use Rattle.phase.specs.Ranges.{HeadOk, PhaseOk}
@@ -37,10 +41,27 @@ use Rattle.frame.specs.declared.Back.{Back}
 use Rattle.receiver_slot.specs.declared.Points.{Points}
 use Rattle.receiver_slot.specs.Aligned.{Between, none, five}
 use Rattle.receiver_slot.specs.Ranges.{BackOk, PointsOk, SumsFit}
-use Rattle.receiver_bounds.specs.Bounds.{allWithin, backWithin, corrWithin, eqWithin, firstWithin, headWithin, heldWithin, lastWithin, metaWithin, metasWithin, phaseWithin, pointsWithin, runWithin, stageWithin, sumsWithin, tallyWithin, within}
+use Rattle.receiver_bounds.specs.Bounds.{allWithin, backWithin, corrWithin, eqWithin, even, firstWithin, headWithin, heldWithin, lastWithin, metaWithin, metasWithin, ncoWithin, phaseWithin, pointsWithin, runWithin, stageWithin, stepsWithin, sumsWithin, tallyWithin, trailWithin, within}
 
 and-yes : (a b : Bool) → a ≡ true → b ≡ true → (a && b) ≡ true
 and-yes a b p q = rw (p, q)
+
+-- ---- the carrier: the ranges of a receiver are those of a carrier by itself, and less
+sum-wide : (z : ℤ) → leZ z (pos 126701535114) ≡ true → leZ z (pos 126701535173) ≡ true
+sum-wide (pos n) e = le-leb n 126701535173 (omega (arith, leb-true n 126701535114 e))
+sum-wide (negsuc n) e = refl
+
+trail-wide : (t : Trail) → trailWithin t ≡ true → trailInRange t ≡ true
+unfolding trailWithin stepsWithin trailInRange stepsInRange
+trail-wide Empty e = refl
+trail-wide (Since s) e =
+    let a = and-both (leb (s .steps) 59 && leZ (minus 126701535232) (s .sum) && leZ (s .sum) (pos 126701535114)) (even (s .«last_ss»)) e in
+    let b = and-both (leb (s .steps) 59 && leZ (minus 126701535232) (s .sum)) (leZ (s .sum) (pos 126701535114)) (a .0) in
+    and-yes _ _ (b .0) (sum-wide (s .sum) (b .1))
+
+pub nco-wide : (n : Nco) → ncoWithin n ≡ true → ncoInRange n ≡ true
+unfolding ncoWithin ncoInRange
+nco-wide n e = trail-wide (n .trail) e
 
 -- ---- the slot sync: the ranges of a receiver are those of a sync by itself, and less
 corr-wide : (c : Corr) → corrWithin c ≡ true → corrInRange c ≡ true
@@ -87,7 +108,8 @@ head-ready : (h : Head) → headWithin h ≡ true → HeadOk h
 unfolding headWithin
 head-ready h e =
     let w = within 46480 (2 ^ 62 - 24) (h .at) && corrWithin (h .corr) in
-    let a = and-both (w && leZ (pos 0) (h .amp) && leZ (h .amp) (pos 179130) && slotInRange (h .slot)) (eqb (h .«nco_phase») 0) e in
+    let g = and-both (w && leZ (pos 0) (h .amp) && leZ (h .amp) (pos 179130) && slotInRange (h .slot) && eqb (h .«nco_phase») 0) (even (h .theta)) e in
+    let a = and-both (w && leZ (pos 0) (h .amp) && leZ (h .amp) (pos 179130) && slotInRange (h .slot)) (eqb (h .«nco_phase») 0) (g .0) in
     let b = and-both (w && leZ (pos 0) (h .amp) && leZ (h .amp) (pos 179130)) (slotInRange (h .slot)) (a .0) in
     let c = and-both (w && leZ (pos 0) (h .amp)) (leZ (h .amp) (pos 179130)) (b .0) in
     let d = and-both w (leZ (pos 0) (h .amp)) (c .0) in
@@ -105,15 +127,15 @@ all-size b [] k e = omega arith
 all-size b (v ∷ vs) zero e = leb-true (natAbs v) b (and-both (leb (natAbs v) b) (allWithin b vs) e .0)
 all-size b (v ∷ vs) (suc k) e = all-size b vs k (and-both (leb (natAbs v) b) (allWithin b vs) e .1)
 
-right-size : (l : List ℤ) (k : ℕ) → allWithin 199011604627456 l ≡ true → natAbs (nth l k) ≤ 2 ^ 53
-right-size l k e = omega (arith, all-size 199011604627456 l k e)
+right-size : (l : List ℤ) (k : ℕ) → allWithin 199010845458432 l ≡ true → natAbs (nth l k) ≤ 2 ^ 53
+right-size l k e = omega (arith, all-size 199010845458432 l k e)
 
 sums-ready : (s : Sums) → sumsWithin s ≡ true → SumsFit s
 unfolding sumsWithin
 sums-ready s e =
-    let a = and-both (leb (s .count) 4194304 && upperInRange (s .r) 0 11) (allWithin 199011604627456 (s .p)) e in
-    let b = and-both (leb (s .count) 4194304) (upperInRange (s .r) 0 11) (a .0) in
-    record { count = leb-true (s .count) 4194304 (b .0); upper = upper-sizes (s .r) (b .1); right = λ k h. right-size (s .p) k (a .1) }
+    let a = and-both (leb (s .count) 4194288 && upperInRange 4194288 (s .r) 0 11) (allWithin 199010845458432 (s .p)) e in
+    let b = and-both (leb (s .count) 4194288) (upperInRange 4194288 (s .r) 0 11) (a .0) in
+    record { count = omega (arith, leb-true (s .count) 4194288 (b .0)); upper = upper-sizes 4194288 (omega arith) (s .r) (b .1); right = λ k h. right-size (s .p) k (a .1) }
 
 either : (a b : Bool) → (a || b) ≡ true → a ≡ false → b ≡ true
 either a b e f = rw f at e

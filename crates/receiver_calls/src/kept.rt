@@ -20,7 +20,7 @@ pub struct Turn {
 }
 
 // Another receiver, and other sums.
-pub fn with_receiver(k: Kept, r: Receiver, t: Sums) -> Kept
+pub(crate) fn with_receiver(k: Kept, r: Receiver, t: Sums) -> Kept
     ensures { λ n. ⌜ n ≡ withReceiver k r t ⌝ }
 {
     let f = k.f;
@@ -36,7 +36,7 @@ pub fn with_receiver(k: Kept, r: Receiver, t: Sums) -> Kept
 }
 
 // Another receiver, and other events.
-pub fn with_played(k: Kept, r: Receiver, e: Events) -> Kept
+pub(crate) fn with_played(k: Kept, r: Receiver, e: Events) -> Kept
     ensures { λ n. ⌜ n ≡ withPlayed k r e ⌝ }
 {
     let t = k.sums;
@@ -51,7 +51,7 @@ pub fn with_played(k: Kept, r: Receiver, e: Events) -> Kept
     }
 }
 
-pub fn with_words(k: Kept, f: [i8; 48], s: [i8; 48]) -> Kept
+pub(crate) fn with_words(k: Kept, f: [i8; 48], s: [i8; 48]) -> Kept
     ensures { λ n. ⌜ n ≡ withWords k f s ⌝ }
 {
     let r = k.receiver;
@@ -66,7 +66,7 @@ pub fn with_words(k: Kept, f: [i8; 48], s: [i8; 48]) -> Kept
     }
 }
 
-pub fn turned(k: Kept, told: [u64; 24]) -> Turn
+pub(crate) fn turned(k: Kept, told: [u64; 24]) -> Turn
     ensures { λ r. ⌜ r ≡ turned k told ⌝ }
 {
     Turn {

@@ -33,13 +33,12 @@ use Rattle.receiver_bounds.proofs.Ready.{run-wide}
 use Rattle.sync_block.proofs.Laws.{ahead, bothAt, levelAt, place-on, silent, symbol-quiet}
 use Rattle.carrier.specs.declared.Nco.{Nco}
 use Rattle.carrier.specs.Carrier.{advancedNco, rotatedOf}
-use Rattle.carrier.specs.Ranges.{ncoInRange, trailInRange}
 use Rattle.phase.specs.declared.SlotPhase.{SlotPhase}
 use Rattle.phase.specs.declared.SlotPhase.the-variants.{Idle, Holds}
 use Rattle.phase.specs.declared.Due.the-variants.{Nothing as NoSlot}
 use Rattle.phase.specs.Phase.{countedIn, pushedIn, storedIn, symbolAt}
 use Rattle.receiver_slot.specs.Slot.{noRun}
-use Rattle.receiver_bounds.specs.Bounds.{allWithin, backWithin, headWithin, heldWithin, phaseWithin, pointsWithin, runWithin, stageWithin, tallyWithin, within}
+use Rattle.receiver_bounds.specs.Bounds.{allWithin, backWithin, headWithin, heldWithin, ncoWithin, phaseWithin, pointsWithin, runWithin, stageWithin, tallyWithin, trailWithin, within}
 use Rattle.receiver.specs.declared.Receiver.{Receiver}
 use Rattle.receiver.specs.declared.Listened.{Listened}
 use Rattle.receiver.specs.declared.Answer.{Answer}
@@ -149,7 +148,7 @@ and-yes : (a b : Bool) → a ≡ true → b ≡ true → (a && b) ≡ true
 and-yes a b p q = rw (p, q)
 
 record Front-in (r : Receiver) : Type 0 where
-  pub nco : ncoInRange (r .front .nco) ≡ true
+  pub nco : ncoWithin (r .front .nco) ≡ true
   pub win : allWithin 4096 (r .front .sync .win) ≡ true
   pub run : runWithin (r .front .sync .run) ≡ true
   pub phase : phaseWithin (r .front .phase) ≡ true
@@ -161,7 +160,7 @@ unfolding receiverInRange frontWithin
 front-in r e =
     let a = and-both (frontWithin (r .front) && backWithin (r .back)) (pointsWithin (r .points)) e in
     let b = and-both (frontWithin (r .front)) (backWithin (r .back)) (a .0) in
-    let n = ncoInRange (r .front .nco) in
+    let n = ncoWithin (r .front .nco) in
     let w = allWithin 4096 (r .front .sync .win) in
     let c = and-both (n && w && runWithin (r .front .sync .run)) (phaseWithin (r .front .phase)) (b .0) in
     let d = and-both (n && w) (runWithin (r .front .sync .run)) (c .0) in
@@ -309,13 +308,13 @@ run-stays q w k y e h l =
 
 module _ (r : Receiver) (k : ℕ) (x : Moving) (e : receiverInRange r ≡ true) (f : Fits x) (l : r .front .sync .run .t + k ≤ 2 ^ 62) where
   passed-in : receiverInRange (passedBy r k x) ≡ true
-  unfolding receiverInRange frontWithin passedBy ncoInRange
+  unfolding receiverInRange frontWithin passedBy ncoWithin
   passed-in =
       let a = front-in r e in
       and-yes _ _ (and-yes _ _ (and-yes _ _ (and-yes _ _ (and-yes _ _ (nco-in (a .nco)) (f .win)) (run-stays (r .front .sync .run) (x .win) k (x .tally) (a .run) (f .tally) l)) (phase-stays k (r .front .phase) (a .phase))) (a .back)) (a .points)
     where
-      nco-in : ncoInRange (r .front .nco) ≡ true → trailInRange (r .front .nco .trail) ≡ true
-      nco-in h = unfold ncoInRange in h
+      nco-in : ncoWithin (r .front .nco) ≡ true → trailWithin (r .front .nco .trail) ≡ true
+      nco-in h = unfold ncoWithin in h
 
 -- only the figures can leave their range
 pub figures-in : (r : Receiver) (k : ℕ) (x : Moving) → receiverInRange r ≡ true → allWithin 4096 (x .win) ≡ true → r .front .sync .run .t + k ≤ 2 ^ 62 →

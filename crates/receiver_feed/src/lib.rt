@@ -60,7 +60,7 @@ pub fn feed(
 {
     let n = ready::standing(r, acc.len(), store.len(), soft.len(), &f, &s, table.len());
     if n == 0 {
-        let rows = sync_corr::ranged::rows(&f, &s);
+        let rows = sync_corr::plain::rows(&f, &s);
         let t = turns::all(r, bytes, &f, &s, &rows, table, acc, store, soft);
         turns::answer(t)
     } else {

@@ -7,7 +7,7 @@ ghost use mathlib.Core.Bool.{true};
 ghost use Prim.Native.Nat.{ℕ, _+_, _*_, _≤_, _<_};
 ghost use lib.ListN.{length};
 ghost use Rattle.laws.specs.Choice.{if_then_else_};
-ghost use Rattle.sync_corr.specs.Rows.{Unit};
+ghost use Rattle.sync_corr.specs.Rows.{SmallRows};
 ghost use Rattle.receiver_bounds.specs.Bounds.{allWithin, tallyWithin};
 ghost use Rattle.receiver_feed.specs.Quiet.{Fits, keptAt, moves, moving, placeIn};
 
@@ -26,7 +26,7 @@ fn keep(store: &mut [i16], c: usize, i: i16, q: i16)
 fn up_to(y: Tally, k: usize, n: usize) -> usize
     ensures { λ r. ⌜ r ≡ (if tallyWithin y then n else k) ⌝ }
 {
-    if receiver_bounds::ranged::tally_within(y) {
+    if receiver_bounds::plain::tally_within(y) {
         n
     } else {
         k
@@ -50,7 +50,7 @@ fn quiet(
     acc: &mut [u32],
     store: &mut [i16],
 ) -> Moved
-    requires { ⌜ (length (now win) ≡ 48) × (length (now acc) ≡ 9296) × (length (now store) ≡ 18592) × (length (now table) ≡ 1024) × (2 * (i + n) ≤ length (now bytes)) × (p + n ≤ 9296) × (c ≤ 9296) × (1 ≤ n) × (Unit (now rows)) × (allWithin 4096 (now win) ≡ true) × (tallyWithin y0 ≡ true) ⌝ }
+    requires { ⌜ (length (now win) ≡ 48) × (length (now acc) ≡ 9296) × (length (now store) ≡ 18592) × (length (now table) ≡ 1024) × (2 * (i + n) ≤ length (now bytes)) × (p + n ≤ 9296) × (c ≤ 9296) × (1 ≤ n) × (SmallRows (now rows)) × (allWithin 4096 (now win) ≡ true) × (tallyWithin y0 ≡ true) ⌝ }
     ensures { λ r. ⌜ (moving (now (win .exit)) (r .tally) (now (acc .exit)) (now (store .exit)) (r .phase) ≡ moves (record { bytes = now (bytes .entry); table = now (table .entry); rows = now (rows .entry); freq = freq }) i p c (r .taken) (moving (now (win .entry)) y0 (now (acc .entry)) (now (store .entry)) phase)) × (1 ≤ r .taken) × (r .taken ≤ n) × ((j : ℕ) → j < r .taken → Fits (moves (record { bytes = now (bytes .entry); table = now (table .entry); rows = now (rows .entry); freq = freq }) i p c j (moving (now (win .entry)) y0 (now (acc .entry)) (now (store .entry)) phase))) × (allWithin 4096 (now (win .exit)) ≡ true) ⌝ }
 {
     let mut y = y0;
@@ -88,7 +88,7 @@ pub(crate) fn moved(
     acc: &mut [u32],
     store: &mut [i16],
 ) -> Moved
-    requires { ⌜ (length (now win) ≡ 48) × (length (now acc) ≡ 9296) × (length (now store) ≡ 18592) × (length (now table) ≡ 1024) × (2 * (i + n) ≤ length (now bytes)) × (p + n ≤ 9296) × (placeIn s ≤ 9296) × (1 ≤ n) × (Unit (now rows)) × (allWithin 4096 (now win) ≡ true) × (tallyWithin y0 ≡ true) ⌝ }
+    requires { ⌜ (length (now win) ≡ 48) × (length (now acc) ≡ 9296) × (length (now store) ≡ 18592) × (length (now table) ≡ 1024) × (2 * (i + n) ≤ length (now bytes)) × (p + n ≤ 9296) × (placeIn s ≤ 9296) × (1 ≤ n) × (SmallRows (now rows)) × (allWithin 4096 (now win) ≡ true) × (tallyWithin y0 ≡ true) ⌝ }
     ensures { λ r. ⌜ (moving (now (win .exit)) (r .tally) (now (acc .exit)) (now (store .exit)) (r .phase) ≡ moves (record { bytes = now (bytes .entry); table = now (table .entry); rows = now (rows .entry); freq = freq }) i p (placeIn s) (r .taken) (moving (now (win .entry)) y0 (now (acc .entry)) (now (store .entry)) phase)) × (1 ≤ r .taken) × (r .taken ≤ n) × ((j : ℕ) → j < r .taken → Fits (moves (record { bytes = now (bytes .entry); table = now (table .entry); rows = now (rows .entry); freq = freq }) i p (placeIn s) j (moving (now (win .entry)) y0 (now (acc .entry)) (now (store .entry)) phase))) × (allWithin 4096 (now (win .exit)) ≡ true) ⌝ }
 {
     match s {

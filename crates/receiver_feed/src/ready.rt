@@ -21,9 +21,9 @@ pub(crate) fn standing(
     ensures { λ n. ⌜ n ≡ standingBy r acc store soft (now (f .entry)) (now (s .entry)) table ⌝ }
 {
     if (acc == 9296) & (store == 18592) & (44880 <= soft) {
-        if sync_corr::ranged::ones(f) & sync_corr::ranged::ones(s) {
+        if sync_corr::plain::ones(f) & sync_corr::plain::ones(s) {
             if table == 1024 {
-                if receiver::ranged::receiver_within(r) {
+                if receiver::plain::receiver_within(r) {
                     0
                 } else {
                     6
@@ -51,7 +51,7 @@ pub(crate) fn calm(r: Receiver, left: usize) -> usize
     ensures { λ n. ⌜ n ≡ calmOf r left ⌝ }
 {
     let y = r.front.sync.run;
-    if sync::ranged::past_end(y.base, y.t) {
+    if sync::plain::past_end(y.base, y.t) {
         0
     } else {
         smaller(sync_block::ranged::reach(y) - 1, left)
@@ -65,8 +65,8 @@ pub(crate) fn refusal(r: Receiver) -> u8
 {
     let y = r.front.sync.run;
     let c = y.tally;
-    if receiver_bounds::ranged::tally_within(c) {
-        let past = sync::ranged::past_end(y.base, y.t);
+    if receiver_bounds::plain::tally_within(c) {
+        let past = sync::plain::past_end(y.base, y.t);
         if past { 7 } else { 0 }
     } else {
         6
@@ -81,6 +81,6 @@ pub(crate) fn still(r: Receiver, used: usize) -> bool
     if used == 0 {
         true
     } else {
-        receiver::ranged::receiver_within(r)
+        receiver::plain::receiver_within(r)
     }
 }

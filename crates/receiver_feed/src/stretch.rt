@@ -14,7 +14,7 @@ ghost use mathlib.Core.Bool.{true, false};
 ghost use Prim.Native.Nat.{ℕ, suc, _+_, _*_, _≤_, _<_, _^_};
 ghost use mathlib.Core.List.{[]};
 ghost use lib.ListN.{length};
-ghost use Rattle.sync_corr.specs.Rows.{Unit};
+ghost use Rattle.sync_corr.specs.Rows.{SmallRows};
 ghost use Rattle.sync_block.specs.Quiet.{Ahead, passedRun};
 ghost use Rattle.receiver_bounds.specs.Bounds.{tallyWithin};
 ghost use Rattle.receiver.specs.Ranges.{receiverInRange};
@@ -123,7 +123,7 @@ pub(crate) fn stretch(
     acc: &mut [u32],
     store: &mut [i16],
 ) -> Passed
-    requires { ⌜ (receiverInRange r ≡ true) × (Ahead (r .front .sync .run) (suc m)) × (1 ≤ m) × (2 * (i + m) ≤ length (now bytes)) × (Unit (now rows)) × (length (now table) ≡ 1024) × (length (now acc) ≡ 9296) × (length (now store) ≡ 18592) ⌝ }
+    requires { ⌜ (receiverInRange r ≡ true) × (Ahead (r .front .sync .run) (suc m)) × (1 ≤ m) × (2 * (i + m) ≤ length (now bytes)) × (SmallRows (now rows)) × (length (now table) ≡ 1024) × (length (now acc) ≡ 9296) × (length (now store) ≡ 18592) ⌝ }
     ensures { λ p. ⌜ (p .receiver ≡ passedBy r (p .taken) (movesFrom r (now (bytes .entry)) (now (table .entry)) (now (rows .entry)) (now (acc .entry)) (now (store .entry)) i (p .taken))) × (now (acc .exit) ≡ movesFrom r (now (bytes .entry)) (now (table .entry)) (now (rows .entry)) (now (acc .entry)) (now (store .entry)) i (p .taken) .acc) × (now (store .exit) ≡ movesFrom r (now (bytes .entry)) (now (table .entry)) (now (rows .entry)) (now (acc .entry)) (now (store .entry)) i (p .taken) .store) × (1 ≤ p .taken) × (p .taken ≤ m) × ((j : ℕ) → j < p .taken → Fits (movesFrom r (now (bytes .entry)) (now (table .entry)) (now (rows .entry)) (now (acc .entry)) (now (store .entry)) i j)) × (receiverInRange (p .receiver) ≡ tallyWithin (p .receiver .front .sync .run .tally)) ⌝ }
 {
     let n = r.front.nco;
@@ -133,7 +133,7 @@ pub(crate) fn stretch(
     let s = a.phase;
     let z = a.sync;
     let mut win = window_of(z);
-    let p = sync_step::ranged::place(y.t);
+    let p = sync_step::plain::place(y.t);
     let d = freq_of(n);
     let x = quiet::moved(
         y0,

@@ -10,8 +10,6 @@ use Rattle.laws.specs.Choice.{if_then_else_, if-yes}
 use Rattle.laws.proofs.Tests.{if-either, never}
 use Rattle.carrier.specs.declared.Nco.{Nco}
 use Rattle.carrier.specs.Carrier.{heardOf}
-use Rattle.carrier.specs.Coherent.{Coherent as CoherentNco}
-use Rattle.carrier.proofs.Kept.{word-coherent}
 use Rattle.sync_corr.specs.Rows.{Bounded}
 use Rattle.sync_corr.specs.declared.Both.{Both}
 use Rattle.sync_lock.specs.declared.Lock.{Lock}
@@ -40,7 +38,8 @@ use Rattle.phase.specs.declared.WholeSlot.{WholeSlot}
 use Rattle.phase.specs.Phase.{begunOf, countedIn, pushedIn, wholeOf, dueIn}
 use Rattle.receiver.specs.declared.Listened.{Listened}
 use Rattle.receiver.specs.Heads.{orDue, eventHeard}
-use Rattle.receiver_range.specs.Coherent.{HeadFits, HeldFits, PhaseFits}
+use Rattle.receiver_range.specs.Coherent.{HeadFits, HeldFits, NcoFits, PhaseFits}
+use Rattle.receiver_range.proofs.Even.{heard-fits}
 use Rattle.receiver_range.proofs.Tells.{HeadOf, head-fits, TellsOne, mute, sole, TellsTwo, missed, alone, pair, known-tells, first-tells, Knows, known-knows, first-knows}
 use Rattle.receiver_range.proofs.Events.{still-locked, After}
 
@@ -70,7 +69,7 @@ pub record Goes (s : SlotPhase) (q : Run) (l : Listened) : Type 0 where
   pub follows : Follows s (l .due) (pushedIn 9296 (l .phase))
 
 pub record Hears (r : Run) (s : SlotPhase) (b : Both) (k : Taken) (l : Listened) : Type 0 where
-  pub nco : CoherentNco (l .nco)
+  pub nco : NcoFits (l .nco)
   pub due : DueFits s (r .base + r .t - 23) (l .due)
   -- a head that loses is not told
   pub quiet : k .lost ≡ true → k .second ≡ NoHead
@@ -185,10 +184,6 @@ held-due : (x : Held) (h : Head) → x .count ≡ 9296 → dueIn 9296 (Holds x) 
 unfolding dueIn
 held-due x h e = if-yes (eqb (x .count) 9296) _ _ (eq-eqb (x .count) 9296 e)
 
-heard-coherent : (n : Nco) (h : Head) → CoherentNco n → CoherentNco (heardOf n h .nco)
-unfolding heardOf
-heard-coherent n h c = word-coherent n (h .word) (h .theta) c
-
 -- what is true of the heads that k names is true of k's
 of-heads : (r : Run) (s : SlotPhase) (b : Both) (k : Taken) (l : Listened) (a c : Headed) (m : Listened) → k .first ≡ a → k .second ≡ c → heardBy l a c ≡ m →
     Hears r s b k m → Hears r s b k (heardBy l (k .first) (k .second))
@@ -197,7 +192,7 @@ of-heads r s b k l a c m e f g y =
     subst (Hears r s b k) (sym z) y
 
 -- ---- nothing is told
-silent-hears : (r : Run) (s : SlotPhase) (b : Both) (k : Taken) (n : Nco) → CoherentNco n → k .second ≡ NoHead →
+silent-hears : (r : Run) (s : SlotPhase) (b : Both) (k : Taken) (n : Nco) → NcoFits n → k .second ≡ NoHead →
     (k .lost ≡ false → (q : Run) → After r k q → Goes s q (before n s)) → Hears r s b k (before n s)
 silent-hears r s b k n c e g = record { nco = c; due = tt; quiet = λ z. e; goes = λ z hf hs l q a. g z q a }
 
@@ -219,7 +214,7 @@ unfolding readingOf
 one-goes r h b k n x q d m u y o hf hs l a = new-held r q k h x d m u y (head-fits (record { at = r .base + r .t - 23; both = b }) (k .course) x hf hs l o) (o .at-is) a
 
 -- where none was held
-first-hears : (r : Run) (h : ℕ) (b : Both) (k : Taken) (n : Nco) (x : Head) → CoherentNco n → Read r h → 1 ≤ h → 23 ≤ r .t → Knows k → (k .lost ≡ true → k .second ≡ NoHead) →
+first-hears : (r : Run) (h : ℕ) (b : Both) (k : Taken) (n : Nco) (x : Head) → NcoFits n → Read r h → 1 ≤ h → 23 ≤ r .t → Knows k → (k .lost ≡ true → k .second ≡ NoHead) →
     HeadOf (readingOf r b) (k .course) x → Hears r Idle b k (record { nco = n; phase = begunOf x; due = NoSlot })
 first-hears r h b k n x c d m u y e o =
     record {
@@ -240,7 +235,7 @@ whole-count r h x f l d =
     offsetOf (Search cand count) = 0
     offsetOf (Locked offset misses) = offset
 
-next-hears : (r : Run) (h : ℕ) (s : Held) (b : Both) (k : Taken) (n : Nco) (x : Head) → CoherentNco n → HeldFits r s → LockFits (r .t) h (r .lock) → Read r h → 1 ≤ h → 23 ≤ r .t →
+next-hears : (r : Run) (h : ℕ) (s : Held) (b : Both) (k : Taken) (n : Nco) (x : Head) → NcoFits n → HeldFits r s → LockFits (r .t) h (r .lock) → Read r h → 1 ≤ h → 23 ≤ r .t →
     Knows k → k .second ≡ NoHead → k .lost ≡ false → HeadOf (readingOf r b) (k .course) x →
     Hears r (Holds s) b k (record { nco = n; phase = begunOf x; due = Slot (wholeOf (s .head) x) })
 unfolding wholeOf readingOf
@@ -256,7 +251,7 @@ next-hears r h s b k n x c f g d m u y e z o =
     }
 
 -- ---- a reading, by its stage
-module _ (r : Run) (h : ℕ) (b : Both) (n : Nco) (c : CoherentNco n) (l : LockFits (r .t) h (r .lock)) (u : 23 ≤ r .t) (d : Read r h) where
+module _ (r : Run) (h : ℕ) (b : Both) (n : Nco) (c : NcoFits n) (l : LockFits (r .t) h (r .lock)) (u : 23 ≤ r .t) (d : Read r h) where
   abbrev taken : Stage → Taken
   taken k = readOf 9296 k (r .course) (readingOf r b)
 
@@ -278,11 +273,11 @@ module _ (r : Run) (h : ℕ) (b : Both) (n : Nco) (c : CoherentNco n) (l : LockF
       HeadOf (readingOf r b) (taken k .course) x → Heard s k
   one-hears Idle x k m f y e z g o =
       of-heads r Idle b (taken k) (before n Idle) (OneHead x) NoHead (record { nco = heardOf n x .nco; phase = begunOf x; due = NoSlot }) g e
-      (hear-one n Idle x ∙ ap (told x) (idle-due x)) (first-hears r h b (taken k) (heardOf n x .nco) x (heard-coherent n x c) d m u y (λ t. e) o)
+      (hear-one n Idle x ∙ ap (told x) (idle-due x)) (first-hears r h b (taken k) (heardOf n x .nco) x (heard-fits n x (o .even) c) d m u y (λ t. e) o)
   one-hears (Holds s) x k m f y e z g o =
       of-heads r (Holds s) b (taken k) (before n (Holds s)) (OneHead x) NoHead (record { nco = heardOf n x .nco; phase = begunOf x; due = Slot (wholeOf (s .head) x) }) g e
       (hear-one n (Holds s) x ∙ ap (told x) (held-due s x (whole-count r h s f l d)))
-      (next-hears r h s b (taken k) (heardOf n x .nco) x (heard-coherent n x c) f l d m u y e z o)
+      (next-hears r h s b (taken k) (heardOf n x .nco) x (heard-fits n x (o .even) c) f l d m u y e z o)
 
   -- head one tells head zero too, or loses
   pair-hears : (z : Reading) (s : SlotPhase) → 1 ≤ h → PhaseFits r s → r .stage ≡ First z → Heard s (First z)
@@ -293,13 +288,13 @@ module _ (r : Run) (h : ℕ) (b : Both) (n : Nco) (c : CoherentNco n) (l : LockF
       k = readOf 9296 (First z) (r .course) (readingOf r b)
 
       go : TellsTwo (readingOf r b) k → Heard Idle (First z)
-      go (missed g t e₁ e₂) =
+      go (missed g v t e₁ e₂) =
           of-heads r Idle b k (before n Idle) (OneHead g) NoHead (told g NoSlot) e₁ e₂ (hear-one n Idle g ∙ ap (told g) (idle-due g))
-          (record { nco = heard-coherent n g c; due = tt; quiet = λ i. e₂; goes = λ i. absurd (never (sym t ∙ i)) })
+          (record { nco = heard-fits n g v c; due = tt; quiet = λ i. e₂; goes = λ i. absurd (never (sym t ∙ i)) })
       go (alone x t e₁ e₂ o) = one-hears Idle x (First z) m f (first-knows 9296 z (r .course) (readingOf r b)) e₂ t e₁ o
-      go (pair g x t e₁ e₂ o) =
+      go (pair g x v t e₁ e₂ o) =
           of-heads r Idle b k (before n Idle) (OneHead g) (OneHead x) (record { nco = heardOf (heardOf n g .nco) x .nco; phase = begunOf x; due = NoSlot }) e₁ e₂ (hear-two n g x)
-          (first-hears r h b k (heardOf (heardOf n g .nco) x .nco) x (heard-coherent (heardOf n g .nco) x (heard-coherent n g c)) d m u
+          (first-hears r h b k (heardOf (heardOf n g .nco) x .nco) x (heard-fits (heardOf n g .nco) x (o .even) (heard-fits n g v c)) d m u
           (first-knows 9296 z (r .course) (readingOf r b)) (λ i. absurd (never (sym i ∙ t))) o)
 
   later-hears : (p : Parity) (s : SlotPhase) → 1 ≤ h → PhaseFits r s → Heard s (Known p)
@@ -322,7 +317,7 @@ module _ (r : Run) (h : ℕ) (b : Both) (n : Nco) (c : CoherentNco n) (l : LockF
       go (Known p) e i = later-hears p s (omega (arith, i .heads)) f
 
 -- ---- a symbol that completes a window: a reading or none
-pub taken-hears : (r : Run) (h : ℕ) (s : SlotPhase) (b : Both) (n : Nco) → CoherentNco n → LockFits (r .t) h (r .lock) → StageFits rotated h (r .stage) → 23 ≤ r .t → PhaseFits r s →
+pub taken-hears : (r : Run) (h : ℕ) (s : SlotPhase) (b : Both) (n : Nco) → NcoFits n → LockFits (r .t) h (r .lock) → StageFits rotated h (r .stage) → 23 ≤ r .t → PhaseFits r s →
     let k = takenOf 9296 r (placeOf 9296 (r .t)) b in
     Hears r s b k (heardBy (before n s) (k .first) (k .second))
 unfolding takenOf

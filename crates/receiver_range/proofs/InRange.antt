@@ -1,5 +1,5 @@
 -- What is coherent is in range: docs/RANGES.md, "Receiver". Assumes nothing.
-use Prim.Native.Nat.{ℕ, suc, _+_, _*_, _-_, _^_, _≤_, _<_}
+use Prim.Native.Nat.{ℕ, suc, _+_, _*_, _-_, _%_, _^_, _≤_, _<_}
 use mathlib.Core.Bool.{Bool, true, _&&_, _||_}
 use mathlib.Core.List.{List, [], _∷_}
 use mathlib.Core.Logic.{_⊎_, inl, inr}
@@ -12,9 +12,13 @@ use lib.Ieee.Bits.{is-true}
 use lib.IntN.{ℤ, pos, natAbs}
 use lib.ListN.{getD, length}
 use lib.Signed.{leZ}
-use Rattle.laws.specs.Choice.{if_then_else_}
+use Rattle.laws.specs.Choice.{if_then_else_, minus}
+use Rattle.laws.proofs.Linear.{le-ud, neg-ud, ud-le}
 use Rattle.laws.proofs.Tests.{and-both, if-either}
-use Rattle.carrier.proofs.Theorems.{coherent-in-range as nco-in-range}
+use Rattle.carrier.specs.declared.Nco.{Nco}
+use Rattle.carrier.specs.declared.Trail.{Trail}
+use Rattle.carrier.specs.declared.Trail.the-variants.{Empty, Since}
+use Rattle.carrier.specs.Coherent.{TrailFits}
 use Rattle.sync_corr.specs.Correlate.{at}
 use Rattle.sync_corr.specs.Rows.{Bounded}
 use Rattle.sync_corr.specs.declared.Corr.{Corr}
@@ -36,18 +40,18 @@ use Rattle.phase.specs.declared.Held.{Held}
 use Rattle.phase.specs.declared.SlotPhase.{SlotPhase}
 use Rattle.phase.specs.declared.SlotPhase.the-variants.{Idle, Holds}
 use Rattle.sums.specs.declared.Sums.{Sums}
-use Rattle.eq_train.specs.Ranges.{sumsInRange, upperInRange, rightInRange}
+use Rattle.eq_train.specs.Ranges.{upperInRange}
 use Rattle.eq_train.specs.Sound.{SumsSound}
-use Rattle.eq_train.proofs.Theorems.{sound-in-range}
+use Rattle.eq_train.proofs.Theorems.{sound-upper}
 use Rattle.eq.specs.declared.Equaliser.{Equaliser}
 use Rattle.eq_range.specs.Coherent.{Coherent as CoherentEq}
 use Rattle.frame_line.specs.declared.Meta.{Meta}
 use Rattle.frame.specs.declared.Back.{Back}
 use Rattle.receiver_slot.specs.declared.Points.{Points}
 use Rattle.receiver.specs.declared.Receiver.{Receiver}
-use Rattle.receiver_bounds.specs.Bounds.{within, allWithin, corrWithin, firstWithin, stageWithin, tallyWithin, runWithin, headWithin, heldWithin, phaseWithin, sumsWithin, eqWithin, metaWithin, metasWithin, lastWithin, backWithin, pointsWithin}
+use Rattle.receiver_bounds.specs.Bounds.{within, allWithin, even, stepsWithin, trailWithin, ncoWithin, corrWithin, firstWithin, stageWithin, tallyWithin, runWithin, headWithin, heldWithin, phaseWithin, sumsWithin, eqWithin, metaWithin, metasWithin, lastWithin, backWithin, pointsWithin}
 use Rattle.receiver.specs.Ranges.{frontWithin, receiverInRange}
-use Rattle.receiver_range.specs.Coherent.{HeadFits, HeldFits, PhaseFits, Untouched, Waits, Adjoins, BackFits, rightMost, RightFits, PointsFit, CoherentReceiver}
+use Rattle.receiver_range.specs.Coherent.{CountFits, HeadFits, HeldFits, NcoFits, TrailEven, PhaseFits, Untouched, Waits, Adjoins, BackFits, rightMost, RightFits, PointsFit, CoherentReceiver}
 
 -- ---- tests
 within-is : (a b v : ℕ) → a ≤ v → v ≤ b → within a b v ≡ true
@@ -117,6 +121,10 @@ held-high r x time h =
     let l : 0 < r .t = omega (arith, h .counted, h .place, h .enough) in
     omega (arith, h .counted, h .some, time l)
 
+even-is : (a : ℕ) → a % 2 ≡ 0 → even a ≡ true
+unfolding even
+even-is a e = eq-eqb (a % 2) 0 e
+
 head-within : (h : Head) → 46480 ≤ h .at → h .at + 24 ≤ 2 ^ 62 → HeadFits h → headWithin h ≡ true
 unfolding headWithin
 head-within h low high f =
@@ -127,6 +135,7 @@ head-within h low high f =
       is-true (leZ (h .amp) (pos 179130)) (f .high .le),
       f .slot,
       eq-eqb (h .«nco_phase») 0 (f .none),
+      even-is (h .theta) (f .even),
     )
 
 phase-within : (r : Run) (s : SlotPhase) → (0 < r .t → r .base + r .t ≤ 2 ^ 62) → PhaseFits r s → phaseWithin s ≡ true
@@ -135,22 +144,42 @@ phase-within r Idle time h = refl
 phase-within r (Holds x) time h =
     rw (head-within (x .head) (held-low r x h) (held-high r x time h) (h .head), within-is 1 9296 (x .count) (omega (arith, h .some)) (omega (arith, h .few)))
 
+-- ---- carrier
+trail-within : (t : Trail) → TrailFits t → TrailEven t → trailWithin t ≡ true
+unfolding trailWithin stepsWithin
+trail-within Empty f e = refl
+trail-within (Since s) f e =
+    rw (
+      le-leb (s .steps) 59 (f .few),
+      is-true (leZ (minus 126701535232) (s .sum)) (le-ud (minus 126701535232) (s .sum) (omega (arith, f .few, ud-le (f .low), neg-ud (pos (s .steps * 2147483648)))) .le),
+      is-true (leZ (s .sum) (pos 126701535114)) (le-ud (s .sum) (pos 126701535114) (omega (arith, f .few, ud-le (e .high))) .le),
+      even-is (s .«last_ss») (e .last),
+    )
+
+nco-within : (n : Nco) → NcoFits n → ncoWithin n ≡ true
+unfolding ncoWithin
+nco-within n c = trail-within (n .trail) (c .coherent .trail) (c .even)
+
 -- ---- equaliser
-right-most : (n m : ℕ) → n ≤ 4194304 → m ≤ n * rightMost → m ≤ 199011604627456
+right-most : (n m : ℕ) → n ≤ 4194288 → m ≤ n * rightMost → m ≤ 199010845458432
 right-most n m h l = omega arith
 
-sums-within : (s : Sums) → SumsSound s → RightFits s → sumsWithin s ≡ true
-unfolding sumsWithin sumsInRange
-sums-within s m r =
-    let a = leb (s .count) 4194304 in
-    let k = and-both (a && upperInRange (s .r) 0 11) (rightInRange (s .p) 0 11) (sound-in-range s m) in
-    rw (k .0)
-    (all-within 199011604627456 (s .p) (λ j l. right-most (s .count) (natAbs (getD (s .p) j (pos 0))) (m .count) (r .small j (omega (arith, r .long)))))
+-- of the numbers of trainings that slots come to, 4,194,288 is the greatest
+few-trained : (n m : ℕ) → n ≤ 4194304 → (n ≡ 24 * m) ⊎ (n ≡ 24 * m + 19) → n ≤ 4194288
+few-trained n m h (inl e) = omega arith
+few-trained n m h (inr e) = omega arith
 
-eq-within : (e : Equaliser) → (e .filled ≡ 0) ⊎ (e .filled ≡ 11) → CoherentEq e → (e .opened ≡ true → RightFits (e .sums)) → eqWithin e ≡ true
+sums-within : (s : Sums) → SumsSound s → RightFits s → s .count ≤ 4194288 → sumsWithin s ≡ true
+unfolding sumsWithin
+sums-within s m r few =
+    rw (le-leb (s .count) 4194288 few, sound-upper 4194288 s m few)
+    (all-within 199010845458432 (s .p) (λ j l. right-most (s .count) (natAbs (getD (s .p) j (pos 0))) few (r .small j (omega (arith, r .long)))))
+
+eq-within : (e : Equaliser) → (e .filled ≡ 0) ⊎ (e .filled ≡ 11) → CoherentEq e → (e .opened ≡ true → RightFits (e .sums)) →
+    (e .opened ≡ true → e .sums .count ≤ 4194288) → eqWithin e ≡ true
 unfolding eqWithin
-eq-within e f c r =
-    let t : (if e .opened then sumsWithin (e .sums) else true) ≡ true = if-either (λ (b : Bool). b ≡ true) (e .opened) _ _ (λ o. sums-within (e .sums) (c .open-sums o) (r o)) (λ o. refl) in
+eq-within e f c r g =
+    let t : (if e .opened then sumsWithin (e .sums) else true) ≡ true = if-either (λ (b : Bool). b ≡ true) (e .opened) _ _ (λ o. sums-within (e .sums) (c .open-sums o) (r o) (g o)) (λ o. refl) in
     rw (fill (e .filled) f, t)
   where
     fill : (n : ℕ) → (n ≡ 0) ⊎ (n ≡ 11) → (eqb n 0 || eqb n 11) ≡ true
@@ -163,15 +192,17 @@ unfolding metaWithin
 meta-within k a m low high w =
     rw (eq-eqb (m .j) (9291 + k) (w .j), within-is (55771 + k) (2 ^ 62 - 29 + k) (m .at) (omega (arith, w .at-is)) (omega (arith, w .at-is)), w .slot)
 
-untouched-within : (b : Back) → Untouched b → CoherentEq (b .eq) → (b .eq .opened ≡ true → RightFits (b .eq .sums)) → backWithin b ≡ true
+untouched-within : (b : Back) → Untouched b → CoherentEq (b .eq) → (b .eq .opened ≡ true → RightFits (b .eq .sums)) →
+    (b .eq .opened ≡ true → b .eq .sums .count ≤ 4194288) → backWithin b ≡ true
 unfolding backWithin metasWithin lastWithin
-untouched-within b u c r = rw (eq-within (b .eq) (inl (u .empty)) c r, u .none, u .last)
+untouched-within b u c r g = rw (eq-within (b .eq) (inl (u .empty)) c r g, u .none, u .last)
 
-adjoins-within : (a : ℕ) (b : Back) → a + 24 ≤ 2 ^ 62 → Adjoins a b → CoherentEq (b .eq) → (b .eq .opened ≡ true → RightFits (b .eq .sums)) → backWithin b ≡ true
+adjoins-within : (a : ℕ) (b : Back) → a + 24 ≤ 2 ^ 62 → Adjoins a b → CoherentEq (b .eq) → (b .eq .opened ≡ true → RightFits (b .eq .sums)) →
+    (b .eq .opened ≡ true → b .eq .sums .count ≤ 4194288) → backWithin b ≡ true
 unfolding backWithin metasWithin lastWithin
-adjoins-within a b high j c r =
+adjoins-within a b high j c r g =
     rw (
-      eq-within (b .eq) (inr (j .full)) c r,
+      eq-within (b .eq) (inr (j .full)) c r g,
       j .five,
       meta-within 0 a (b .metas .first) (j .low) high (j .first),
       meta-within 1 a (b .metas .second) (j .low) high (j .second),
@@ -183,10 +214,16 @@ adjoins-within a b high j c r =
     (within-is 55775 (2 ^ 62 - 25) (j .before) (omega (arith, j .next, j .low)) (omega (arith, j .next, high)))
 
 back-within : (r : Run) (s : SlotPhase) (b : Back) → (0 < r .t → r .base + r .t ≤ 2 ^ 62) → PhaseFits r s → BackFits s b → CoherentEq (b .eq) →
-    (b .eq .opened ≡ true → RightFits (b .eq .sums)) → backWithin b ≡ true
-back-within r Idle b time h f c g = untouched-within b f c g
-back-within r (Holds x) b time h (inl f) c g = untouched-within b f c g
-back-within r (Holds x) b time h (inr f) c g = adjoins-within (x .head .at) b (held-high r x time h) f c g
+    (b .eq .opened ≡ true → RightFits (b .eq .sums)) → (b .eq .opened ≡ true → CountFits b) → backWithin b ≡ true
+back-within r s b time h f c g k = go s h f
+  where
+    few : b .eq .opened ≡ true → b .eq .sums .count ≤ 4194288
+    few o = few-trained (b .eq .sums .count) (k o .slots) (c .open-sums o .count) (k o .count)
+
+    go : (s : SlotPhase) → PhaseFits r s → BackFits s b → backWithin b ≡ true
+    go Idle h f = untouched-within b f c g few
+    go (Holds x) h (inl f) = untouched-within b f c g few
+    go (Holds x) h (inr f) = adjoins-within (x .head .at) b (held-high r x time h) f c g few
 
 -- ---- all
 points-within : (p : Points) → PointsFit p → pointsWithin p ≡ true
@@ -198,10 +235,10 @@ unfolding receiverInRange frontWithin
 in-range r c =
     let s = r .front .sync in
     rw (
-      nco-in-range (r .front .nco) (c .nco),
+      nco-within (r .front .nco) (c .nco),
       window-within (s .win) (c .sync .window),
       run-within s (c .sync),
       phase-within (s .run) (r .front .phase) (c .sync .time) (c .phase),
-      back-within (s .run) (r .front .phase) (r .back) (c .sync .time) (c .phase) (c .back) (c .eq) (c .right),
+      back-within (s .run) (r .front .phase) (r .back) (c .sync .time) (c .phase) (c .back) (c .eq) (c .right) (c .count),
       points-within (r .points) (c .points),
     )

@@ -3,6 +3,7 @@ pub mod InRange
 pub mod Starts
 pub mod Push
 pub mod Slots
+pub mod Even
 pub mod Tells
 pub mod Events
 pub mod Heads

@@ -11,6 +11,7 @@ use lib.IntN.{ℤ, pos, negsuc, natAbs}
 use lib.ListN.{length, length-replicate, getD-replicate}
 use lib.Signed.{ltZ}
 use Rattle.laws.proofs.Tests.{never, neither}
+use Rattle.carrier.specs.Carrier.{startedNco}
 use Rattle.carrier.proofs.Theorems.{start-coherent}
 use Rattle.sync_heads.specs.Ranges.{recordInRange}
 use Rattle.sync_range.specs.Coherent.{rotated}
@@ -32,18 +33,19 @@ use Rattle.receiver.specs.declared.Kept.{Kept}
 use Rattle.receiver.specs.declared.Receiver.{Receiver}
 use Rattle.receiver.specs.Started.{started, noPoints, newKept, keptOf}
 use Rattle.receiver.specs.Answers.{loadedPoints, withPoints, withEq}
-use Rattle.receiver_range.specs.Coherent.{BackFits, RightFits, PointsFit, CoherentReceiver}
+use Rattle.receiver_range.specs.Coherent.{BackFits, CountFits, RightFits, PointsFit, CoherentReceiver}
 
 -- ---- starts
 pub started-coherent : (at : ℕ) (k : Kept) → recordInRange (k .last) ≡ true → PointsFit (k .points) → CoherentReceiver (started at k)
-unfolding started startedBack startedEq noMetas
+unfolding started startedBack startedEq noMetas startedNco
 started-coherent at k e p =
     record {
-      nco = start-coherent (k .phase) (k .freq);
+      nco = record { coherent = start-coherent (k .phase) (k .freq); even = tt };
       sync = sync-started rotated at (k .last) e;
       phase = tt;
       eq = eq-started (k .taps) (k .from);
       right = λ o. absurd (never (sym o));
+      count = λ o. absurd (never (sym o));
       back = record { none = refl; empty = refl; last = refl };
       points = p;
     }
@@ -71,7 +73,7 @@ loaded-points-fit bits points k b e =
 
 pub points-coherent : (r : Receiver) (p : Points) → PointsFit p → CoherentReceiver r → CoherentReceiver (withPoints r p)
 unfolding withPoints
-points-coherent r p f c = record { nco = c .nco; sync = c .sync; phase = c .phase; eq = c .eq; right = c .right; back = c .back; points = f }
+points-coherent r p f c = record { nco = c .nco; sync = c .sync; phase = c .phase; eq = c .eq; right = c .right; count = c .count; back = c .back; points = f }
 
 -- ---- another equaliser, with a line as full
 -- .. is all that the alignment looks at
@@ -96,15 +98,16 @@ back-kept (Holds x) b e h (inr j) =
     })
 
 eq-coherent : (r : Receiver) (e : Equaliser) → CoherentReceiver r → e .filled ≡ r .back .eq .filled → CoherentEq e → (e .opened ≡ true → RightFits (e .sums)) →
-    CoherentReceiver (withEq r e)
+    (e .opened ≡ true → CountFits (withEq r e .back)) → CoherentReceiver (withEq r e)
 unfolding withEq
-eq-coherent r e c h k f =
-    record { nco = c .nco; sync = c .sync; phase = c .phase; eq = k; right = f; back = back-kept (r .front .phase) (r .back) e h (c .back); points = c .points }
+eq-coherent r e c h k f g =
+    record { nco = c .nco; sync = c .sync; phase = c .phase; eq = k; right = f; count = g; back = back-kept (r .front .phase) (r .back) e h (c .back); points = c .points }
 
 -- taps
 pub taps-coherent : (r : Receiver) (taps : List ℤ) (frame : ℕ) → CoherentReceiver r → CoherentReceiver (withEq r (loadedEq (r .back .eq) taps frame))
-unfolding loadedEq
+unfolding loadedEq withEq
 taps-coherent r taps frame c = eq-coherent r (loadedEq (r .back .eq) taps frame) c refl (loaded-coherent (r .back .eq) taps frame (c .eq)) (c .right)
+    (λ o. let k = c .count o in record { slots = k .slots; count = k .count; none = k .none })
 
 -- sums opened, and ended
 empty-right : (frame : ℕ) → RightFits (emptySums frame)
@@ -112,11 +115,12 @@ unfolding emptySums
 empty-right frame = record { long = length-replicate {A = ℤ} 22 (pos 0); small = λ k h. rw (getD-replicate {A = ℤ} 22 k (pos 0) (pos 0) h) (omega arith) }
 
 pub open-sums-coherent : (r : Receiver) (frame : ℕ) → CoherentReceiver r → CoherentReceiver (withEq r (withSums (r .back .eq) true (emptySums frame)))
-unfolding withSums
+unfolding withSums withEq emptySums
 open-sums-coherent r frame c =
     eq-coherent r (withSums (r .back .eq) true (emptySums frame)) c refl (open-coherent (r .back .eq) (emptySums frame) (c .eq) (empty-sound frame)) (λ o. empty-right frame)
+    (λ o. record { slots = 0; count = inl refl; none = λ e. refl })
 
 pub end-sums-coherent : (r : Receiver) → CoherentReceiver r → CoherentReceiver (withEq r (withSums (r .back .eq) false (emptySums 0)))
 unfolding withSums
 end-sums-coherent r c =
-    eq-coherent r (withSums (r .back .eq) false (emptySums 0)) c refl (closed-coherent (r .back .eq) (c .eq)) (λ o. absurd (never (sym o)))
+    eq-coherent r (withSums (r .back .eq) false (emptySums 0)) c refl (closed-coherent (r .back .eq) (c .eq)) (λ o. absurd (never (sym o))) (λ o. absurd (never (sym o)))

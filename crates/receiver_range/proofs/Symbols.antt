@@ -16,7 +16,6 @@ use Rattle.laws.proofs.Size.{arg}
 use Rattle.laws.proofs.Tests.{and-both, by-test, if-either}
 use Rattle.carrier.specs.declared.Nco.{Nco}
 use Rattle.carrier.specs.Carrier.{advancedNco}
-use Rattle.carrier.specs.Coherent.{Coherent as CoherentNco}
 use Rattle.carrier.proofs.Theorems.{rotated-small}
 use Rattle.sync_corr.specs.Correlate.{onesOf, bothOf}
 use Rattle.sync_corr.specs.Rows.{Bounded}
@@ -54,7 +53,7 @@ use Rattle.receiver.specs.Started.{started, keptOf}
 use Rattle.receiver.specs.Heads.{eventHeard, listened, losesIn}
 use Rattle.receiver_slot.specs.Slot.{correctedAll, overfull, dueSymbols, waitingBefore}
 use Rattle.receiver.specs.Symbol.{Input, Lent, nextOf, slotPast, rotated, synced, window, syncLeft, heads, slot, enough, left, lost, receiverAfter, past, full}
-use Rattle.receiver_range.specs.Coherent.{PhaseFits, Untouched, Adjoins, BackFits, CoherentReceiver}
+use Rattle.receiver_range.specs.Coherent.{CountFits, NcoFits, PhaseFits, Untouched, Adjoins, BackFits, CoherentReceiver}
 use Rattle.receiver_range.specs.Calls.{SymbolFits}
 use Rattle.receiver_range.proofs.InRange.{held-low}
 use Rattle.receiver_range.proofs.Starts.{started-coherent}
@@ -66,7 +65,7 @@ use Rattle.receiver_range.proofs.Heads.{DueFits, Follows, heardBy, befo
 -- ---- slot sync and its events
 -- what the heads of a step leave, from carrier n and slot phase s on, and what a sync that runs on has of it
 record Stepped (r : Run) (s : SlotPhase) (b : Both) (n : Nco) (x : Step) : Type 0 where
-  pub nco : CoherentNco (listened 9296 (before n s) (x .events) .nco)
+  pub nco : NcoFits (listened 9296 (before n s) (x .events) .nco)
   pub due : DueFits s (r .base + r .t - 23) (listened 9296 (before n s) (x .events) .due)
   pub goes : losesIn (x .events) ≡ false → Bounded (corrMost Bounds.rotated) (b .f) → Bounded (corrMost Bounds.rotated) (b .s) → slotInRange (x .run .course .slot) ≡ true →
       let l = listened 9296 (before n s) (x .events) in
@@ -81,14 +80,14 @@ no-head r (Holds x) f l = absurd (none (f .counted) (f .place))
     none : x .head .at + x .count + 23 ≡ r .base + r .t → x .head .at ≡ r .base + f .period * 9296 + f .offset → ⊥
     none e d = omega arith
 
-early-stepped : (r : Run) (s : SlotPhase) (b : Both) (n : Nco) → CoherentNco n → PhaseFits r s → r .t < 23 → Stepped r s b n (earlyOf r)
+early-stepped : (r : Run) (s : SlotPhase) (b : Both) (n : Nco) → NcoFits n → PhaseFits r s → r .t < 23 → Stepped r s b n (earlyOf r)
 unfolding earlyOf noEvents listened eventHeard
 early-stepped r s b n c f l =
     let e = no-head r s f l in
     subst (λ (z : SlotPhase). Stepped r z b n (earlyOf r)) (sym e)
     (record { nco = c; due = tt; goes = λ z hf hs k. rw (if-no (leb 23 (r .t)) (pushedIn 9296 Idle) Idle (lt-leb 23 (r .t) l)) (tt, tt) })
 
-late-stepped : (r : Run) (h a : ℕ) (s : SlotPhase) (b : Both) (n : Nco) → CoherentNco n → Bounds.LockFits (r .t) h (r .lock) → Bounds.StageFits Bounds.rotated h (r .stage) → 23 ≤ r .t →
+late-stepped : (r : Run) (h a : ℕ) (s : SlotPhase) (b : Both) (n : Nco) → NcoFits n → Bounds.LockFits (r .t) h (r .lock) → Bounds.StageFits Bounds.rotated h (r .stage) → 23 ≤ r .t →
     PhaseFits r s → Stepped r s b n (lateOf 9296 r b a)
 late-stepped r h a s b n c l g u f =
     let k = takenOf 9296 r (placeOf 9296 (r .t)) b in
@@ -105,7 +104,7 @@ late-stepped r h a s b n c l g u f =
           rw (e, if-yes (leb 23 (r .t)) (pushedIn 9296 (m .phase)) (m .phase) (le-leb 23 (r .t) u)) (w .phase, w .follows);
     }
 
-stepped : (r : Run) (h a : ℕ) (s : SlotPhase) (b : Both) (n : Nco) → CoherentNco n → Bounds.LockFits (r .t) h (r .lock) → Bounds.StageFits Bounds.rotated h (r .stage) → PhaseFits r s →
+stepped : (r : Run) (h a : ℕ) (s : SlotPhase) (b : Both) (n : Nco) → NcoFits n → Bounds.LockFits (r .t) h (r .lock) → Bounds.StageFits Bounds.rotated h (r .stage) → PhaseFits r s →
     Stepped r s b n (stepOf 9296 r b a)
 unfolding stepOf
 stepped r h a s b n c l g f =
@@ -134,10 +133,10 @@ module _ (r : Receiver) (x : Input) (l : Lent) (c : CoherentReceiver r) where
   abbrev both : Both
   both = bothOf (window 9296 r x l) (x .f) (x .s)
 
-  -- the carrier "used its phase, then advanced it"
-  advanced : CoherentNco (advancedNco (r .front .nco))
+  -- the carrier "uses its phase, then advances it"
+  advanced : NcoFits (advancedNco (r .front .nco))
   unfolding advancedNco
-  advanced = record { trail = c .nco .trail }
+  advanced = record { coherent = record { trail = c .nco .coherent .trail }; even = c .nco .even }
 
   steps : Stepped run (r .front .phase) both (advancedNco (r .front .nco)) (synced 9296 r x l)
   unfolding synced window symbolOf
@@ -220,6 +219,39 @@ due-sound q (Holds x) n (Slot w) b table store f g hf hg p u z k e =
     let v : Untouched b ⊎ Adjoins (w .head .at) b = subst (λ i. Untouched b ⊎ Adjoins (i .at) b) (sym (z .head)) u in
     slot-sound w table store f g hf hg (rw (z .head) (p .head .slot)) b v k e
 
+-- the count of open sums goes up by the slot's trainings
+due-count : (q : Run) (s : SlotPhase) (n : ℕ) (d : Due) (b : Back) (table store f g : List ℤ) → onesOf f ≡ true → onesOf g ≡ true → PhaseFits q s → BackFits s b → DueFits s n d →
+    (b .eq .opened ≡ true → CountFits b) → afterAll b (dueSymbols 9296 d table store) f g .eq .opened ≡ true → CountFits (afterAll b (dueSymbols 9296 d table store) f g)
+unfolding dueSymbols
+due-count q s n NoSlot b table store f g hf hg p u z k o = unfold afterAll in k (unfold afterAll in o)
+due-count q Idle n (Slot w) b table store f g hf hg p u z k o = absurd z
+due-count q (Holds x) n (Slot w) b table store f g hf hg p u z k o =
+    let v : Untouched b ⊎ Adjoins (w .head .at) b = subst (λ i. Untouched b ⊎ Adjoins (i .at) b) (sym (z .head)) u in
+    let i : slotInRange (w .head .slot) ≡ true = rw (z .head) (p .head .slot) in
+    let open : b .eq .opened ≡ true = sym (slot-opened w table store f g hf hg i b v) ∙ o in
+    let low : 46480 ≤ w .head .at = rw (z .head) (held-low q x p) in
+    let line = slot-adjoins w table store f g hf hg i b low v .full in
+    go i line (k open) open v
+  where
+    c : Back
+    c = afterAll b (correctedAll 9296 w table store) f g
+
+    not-0 : {X : Type 0} → c .eq .filled ≡ 11 → c .eq .filled ≡ 0 → X
+    not-0 h e = absurd (omega (arith, h, e))
+
+    later : (m : ℕ) → c .eq .sums .count ≡ b .eq .sums .count + 24 → (b .eq .sums .count ≡ 24 * m) ⊎ (b .eq .sums .count ≡ 24 * m + 19) →
+        (c .eq .sums .count ≡ 24 * suc m) ⊎ (c .eq .sums .count ≡ 24 * suc m + 19)
+    later m h (inl e) = inl (omega (arith, h, e))
+    later m h (inr e) = inr (omega (arith, h, e))
+
+    go : slotInRange (w .head .slot) ≡ true → c .eq .filled ≡ 11 → CountFits b → b .eq .opened ≡ true → Untouched b ⊎ Adjoins (w .head .at) b → CountFits c
+    go i line k open (inl v) =
+        let t = slot-first w table store f g hf hg i b v .counted open in
+        record { slots = 0; count = inr (omega (arith, t, k .none (v .empty))); none = not-0 line }
+    go i line k open (inr v) =
+        let t = slot-later w table store f g hf hg i b v .counted open in
+        record { slots = suc (k .slots); count = later (k .slots) t (k .count); none = not-0 line }
+
 module _ (r : Receiver) (x : Input) (l : Lent) (c : CoherentReceiver r) (a : Takes r x l) where
   -- nothing lost: what is left
   left-coherent : full 9296 r x l ≡ false → lost 9296 r x l ≡ false → CoherentReceiver (left 9296 r x l)
@@ -234,6 +266,8 @@ module _ (r : Receiver) (x : Input) (l : Lent) (c : CoherentReceiver r) (a : Tak
         phase = y .0;
         eq = b .coherent;
         right = b .right;
+        count = due-count (r .front .sync .run) (r .front .phase) _ (heads 9296 r x l .due) (r .back) (x .table) (l .store) (x .f) (x .s) (a .first) (a .second) (c .phase) (c .back)
+        (due-fits r x l c) (c .count);
         back = due-back (r .front .sync .run) (r .front .phase) _ (heads 9296 r x l .due) (r .back) (x .table) (l .store) (x .f) (x .s) (a .first) (a .second) (c .phase) (c .back) (y .1);
         points = c .points;
       }

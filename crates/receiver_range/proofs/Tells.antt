@@ -1,5 +1,5 @@
 -- What the heads that a reading tells are: the last of them is the reading's own, of its position and with the course's slot. Assumes nothing.
-use Prim.Native.Nat.{ℕ, _≤_}
+use Prim.Native.Nat.{ℕ, _%_, _≤_}
 use mathlib.Core.Bool.{Bool, true, false}
 use mathlib.Core.Path.{_≡_, refl}
 use native.Mathlib.Omega.{arith}
@@ -27,6 +27,7 @@ use Rattle.sync_heads.specs.Words.{saidOf, negated}
 use Rattle.sync_heads.specs.Heads.{headOf, ssyncOf, fsyncOf, ssyncTaken, fsyncTaken, knownOf, bothHeads, firstOf, readOf}
 use Rattle.sync_range.specs.Coherent.{rotated, corrMost}
 use Rattle.receiver_range.specs.Coherent.{HeadFits}
+use Rattle.receiver_range.proofs.Even.{cordic-even}
 
 -- ---- a head as told
 pub record HeadOf (r : Reading) (c : Course) (h : Head) : Type 0 where
@@ -35,6 +36,7 @@ pub record HeadOf (r : Reading) (c : Course) (h : Head) : Type 0 where
   pub amp : h .amp ≡ cordicOf (h .corr .re) (h .corr .im) .size
   pub slot : h .slot ≡ c .slot
   pub none : h .«nco_phase» ≡ 0
+  pub even : h .theta % 2 ≡ 0
 
 negated-bounded : (m : ℕ) (c : Corr) → Bounded m c → Bounded m (negated c)
 unfolding negated
@@ -47,7 +49,7 @@ said-bounded ssync b last m hf hs =
 
 head-of : (ssync : Bool) (last : Corr) (r : Reading) (c : Course) → HeadOf r c (headOf (saidOf ssync (r .both) last) (r .at) (c .slot))
 unfolding headOf
-head-of ssync last r c = record { at-is = refl; corr = said-bounded ssync (r .both) last; amp = refl; slot = refl; none = refl }
+head-of ssync last r c = record { at-is = refl; corr = said-bounded ssync (r .both) last; amp = refl; slot = refl; none = refl; even = cordic-even _ _ }
 
 -- its size is the CORDIC's of parts within 98,328
 amp-size : (re im : ℤ) → natAbs re ≤ 98328 → natAbs im ≤ 98328 → (pos 0 ≤ℤ cordicOf re im .size) × (cordicOf re im .size ≤ℤ pos 179130)
@@ -58,7 +60,7 @@ pub head-fits : (r : Reading) (c : Course) (h : Head) → Bounded (corrMost rota
 head-fits r c h hf hs l o =
     let b = o .corr 98328 hf hs in
     let a = amp-size (h .corr .re) (h .corr .im) (b .re) (b .im) in
-    record { corr = b; low = rw (o .amp) (a .0); high = rw (o .amp) (a .1); slot = rw (o .slot) l; none = o .none }
+    record { corr = b; low = rw (o .amp) (a .0); high = rw (o .amp) (a .1); slot = rw (o .slot) l; none = o .none; even = o .even }
 
 -- ---- an F head: told, or lost
 data FTold (r : Reading) (t : Told) : Type 0 where
@@ -92,17 +94,17 @@ known-tells n p c r = if-both (TellsOne r) (p .due) _ _ (ssync-tells (p .odd) c 
 
 -- ---- head one: one head, head zero too, or a loss
 pub data TellsTwo (r : Reading) (k : Taken) : Type 0 where
-  missed : (g : Head) → k .lost ≡ true → k .first ≡ OneHead g → k .second ≡ NoHead → TellsTwo r k
+  missed : (g : Head) → g .theta % 2 ≡ 0 → k .lost ≡ true → k .first ≡ OneHead g → k .second ≡ NoHead → TellsTwo r k
   alone : (h : Head) → k .lost ≡ false → k .first ≡ OneHead h → k .second ≡ NoHead → HeadOf r (k .course) h → TellsTwo r k
-  pair : (g h : Head) → k .lost ≡ false → k .first ≡ OneHead g → k .second ≡ OneHead h → HeadOf r (k .course) h → TellsTwo r k
+  pair : (g h : Head) → g .theta % 2 ≡ 0 → k .lost ≡ false → k .first ≡ OneHead g → k .second ≡ OneHead h → HeadOf r (k .course) h → TellsTwo r k
 
 both-tells : (n : ℕ) (z : Reading) (c : Course) (r : Reading) → TellsTwo r (bothHeads n z c r)
-unfolding bothHeads fsyncTaken ssyncOf
+unfolding bothHeads fsyncTaken ssyncOf headOf
 both-tells n z c r = go (fsync-told n (ssyncOf c z .course) r (z .both .s))
   where
     go : FTold r (fsyncOf n (ssyncOf c z .course) r (z .both .s)) → TellsTwo r (bothHeads n z c r)
-    go (silent e y) = missed _ e refl y
-    go (told h e y o) = pair _ h e refl y o
+    go (silent e y) = missed _ (cordic-even _ _) e refl y
+    go (told h e y o) = pair _ h (cordic-even _ _) e refl y o
 
 silent-tells : (c : Course) (r : Reading) → TellsTwo r (ssyncTaken true c r)
 unfolding ssyncTaken ssyncOf

@@ -1,8 +1,8 @@
--- What is true together of the numbers of a receiver that came from calls: docs/RANGES.md, "Receiver", "jointly".
+-- What is true together of the numbers of a receiver that came from calls: docs/RANGES.md, under Receiver, what is told jointly.
 use mathlib.Core.Path.{_≡_}
 use mathlib.Core.Bool.{true}
 use mathlib.Core.Logic.{_⊎_}
-use Prim.Native.Nat.{ℕ, _+_, _*_, _^_, _≤_, _<_}
+use Prim.Native.Nat.{ℕ, _+_, _-_, _*_, _%_, _^_, _≤_, _<_}
 use lib.IntN.{pos, natAbs}
 use lib.ListN.{length}
 use lib.Signed.{_≤ℤ_}
@@ -14,6 +14,10 @@ use Rattle.sync_heads.specs.declared.Stage.the-variants.{Known}
 use Rattle.sync_heads.specs.Ranges.{slotInRange}
 use Rattle.sync_step.specs.declared.Run.{Run}
 use Rattle.sync_range.specs.Coherent.{rotated, corrMost, Coherent as CoherentSync}
+use Rattle.carrier.specs.declared.Nco.{Nco}
+use Rattle.carrier.specs.declared.Steps.{Steps}
+use Rattle.carrier.specs.declared.Trail.{Trail}
+use Rattle.carrier.specs.declared.Trail.the-variants.{Empty, Since}
 use Rattle.carrier.specs.Coherent.{Coherent as CoherentNco}
 use Rattle.phase.specs.declared.Held.{Held}
 use Rattle.phase.specs.declared.SlotPhase.{SlotPhase}
@@ -27,6 +31,19 @@ use Rattle.frame.specs.declared.Back.{Back}
 use Rattle.receiver_slot.specs.declared.Points.{Points}
 use Rattle.receiver.specs.declared.Receiver.{Receiver}
 
+-- ---- the carrier: the angles of heads are the CORDIC's, which are even, and so is each difference of two
+pub record StepsEven (s : Steps) : Type 0 where
+  pub last : s .«last_ss» % 2 ≡ 0
+  pub high : s .sum ≤ℤ pos (s .steps * (2 ^ 31 - 2))
+
+abbrev pub TrailEven : Trail → Type 0
+TrailEven Empty = Unit {0}
+TrailEven (Since s) = StepsEven s
+
+pub record NcoFits (n : Nco) : Type 0 where
+  pub coherent : CoherentNco n
+  pub even : TrailEven (n .trail)
+
 -- ---- a held head, of a sync that runs like this
 pub record HeadFits (h : Head) : Type 0 where
   pub corr : Bounded (corrMost rotated) (h .corr)
@@ -34,6 +51,7 @@ pub record HeadFits (h : Head) : Type 0 where
   pub high : h .amp ≤ℤ pos 179130
   pub slot : slotInRange (h .slot) ≡ true
   pub none : h .«nco_phase» ≡ 0
+  pub even : h .theta % 2 ≡ 0
 
 pub record HeldFits (r : Run) (x : Held) : Type 0 where
   pub head : HeadFits (x .head)
@@ -94,16 +112,23 @@ pub record RightFits (s : Sums) : Type 0 where
   pub long : length (s .p) ≡ 22
   pub small : (k : ℕ) → k < 22 → natAbs (nth (s .p) k) ≤ s .count * rightMost
 
+-- a slot trains 24 times, a stretch's first one 19 times; sums that were opened before it count none yet
+pub record CountFits (b : Back) : Type 0 where
+  pub slots : ℕ
+  pub count : (b .eq .sums .count ≡ 24 * slots) ⊎ (b .eq .sums .count ≡ 24 * slots + 19)
+  pub none : b .eq .filled ≡ 0 → b .eq .sums .count ≡ 0
+
 pub record PointsFit (p : Points) : Type 0 where
   pub bits : p .bits ≤ 5
   pub k : p .k ≤ 2 ^ 24
 
 -- ---- all
 pub record CoherentReceiver (r : Receiver) : Type 0 where
-  pub nco : CoherentNco (r .front .nco)
+  pub nco : NcoFits (r .front .nco)
   pub sync : CoherentSync rotated (r .front .sync)
   pub phase : PhaseFits (r .front .sync .run) (r .front .phase)
   pub eq : CoherentEq (r .back .eq)
   pub right : r .back .eq .opened ≡ true → RightFits (r .back .eq .sums)
+  pub count : r .back .eq .opened ≡ true → CountFits (r .back)
   pub back : BackFits (r .front .phase) (r .back)
   pub points : PointsFit (r .points)

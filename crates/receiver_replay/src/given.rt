@@ -17,7 +17,7 @@ pub(crate) fn symbols(bytes: &[u8; 192]) -> [i8; 144]
     let mut t = no_symbols();
     let mut k: usize = 0;
     while k < 144 {
-        t[k] = fields::ranged::one(bytes[48 + k]);
+        t[k] = fields::plain::one(bytes[48 + k]);
         k += 1;
     }
     t

@@ -43,7 +43,7 @@ alignedAll b (c ∷ cs) f s = alignedBy (pushedBack b c f s .out) ++ alignedAll 
 unfoldable pub tapsFor : Back → Meta → List ℤ
 tapsFor b m = b .eq .taps
 
--- 8: "training count 4,194,304 before any addition the call would make (a receiver's symbol: any of its trainings)"
+-- 8: "training count 4,194,304 .. before any addition the call would make (a receiver's symbol: any of its trainings)"
 unfoldable pub overfull : Back → List Corrected → List ℤ → List ℤ → Bool
 overfull b [] f s = false
 overfull b (c ∷ cs) f s = fullBack (joinedTo b (c .at)) || overfull (pushedBack b c f s .back) cs f s

@@ -12,7 +12,6 @@ use Rattle.laws.specs.Choice.{if_then_else_, if-yes, if-no}
 use Rattle.laws.proofs.Tests.{and-both, by-test}
 use Rattle.sync_corr.specs.Correlate.{onesOf}
 use Rattle.sync_step.proofs.Laws.{run-ready}
-use Rattle.carrier.specs.Ranges.{ncoInRange}
 use Rattle.carrier.proofs.Laws.{nco-ok}
 use Rattle.phase.specs.declared.WholeSlot.{WholeSlot}
 use Rattle.phase.specs.declared.Due.the-variants.{Slot}
@@ -24,8 +23,8 @@ use Rattle.receiver_slot.proofs.Full.{full-is}
 use Rattle.receiver.specs.declared.Receiver.{Receiver}
 use Rattle.receiver_symbol.specs.Parts.{AheadOk, Soon, dueRefusal, soonRefusal, stateRefusal}
 use Rattle.receiver.specs.Symbol.{nextOf, slotPast}
-use Rattle.receiver_bounds.specs.Bounds.{allWithin, runWithin, phaseWithin, backWithin, pointsWithin}
-use Rattle.receiver_bounds.proofs.Ready.{run-wide, phase-ready, back-ready, points-ready}
+use Rattle.receiver_bounds.specs.Bounds.{ncoWithin, allWithin, runWithin, phaseWithin, backWithin, pointsWithin}
+use Rattle.receiver_bounds.proofs.Ready.{nco-wide, run-wide, phase-ready, back-ready, points-ready}
 use Rattle.receiver.specs.Ranges.{frontWithin, receiverInRange}
 
 -- ---- the receiver
@@ -44,12 +43,12 @@ unfolding frontWithin nextOf
 ahead-ok r acc store soft f s table k =
     let a = r .front in
     let w = allWithin 4096 (a .sync .win) in
-    let p = and-both (ncoInRange (a .nco) && w && runWithin (a .sync .run)) (phaseWithin (a .phase)) (parts r (k .within) .0) in
-    let q = and-both (ncoInRange (a .nco) && w) (runWithin (a .sync .run)) (p .0) in
-    let n = and-both (ncoInRange (a .nco)) w (q .0) in
+    let p = and-both (ncoWithin (a .nco) && w && runWithin (a .sync .run)) (phaseWithin (a .phase)) (parts r (k .within) .0) in
+    let q = and-both (ncoWithin (a .nco) && w) (runWithin (a .sync .run)) (p .0) in
+    let n = and-both (ncoWithin (a .nco)) w (q .0) in
     record {
       run = run-ready (a .sync .run) (run-wide (a .sync .run) (q .1)) (lt-leb (2 ^ 62) (a .sync .run .base + a .sync .run .t) (k .next));
-      nco = nco-ok (a .nco) (n .0);
+      nco = nco-ok (a .nco) (nco-wide (a .nco) (n .0));
       phase = phase-ready (a .phase) (p .1);
       first = k .first;
       second = k .second;

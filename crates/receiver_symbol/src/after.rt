@@ -29,7 +29,7 @@ fn left(r: Receiver, a: Ahead, b: Back, p: SlotPhase) -> Receiver
         front: Front {
             nco: nco,
             sync: SlotSync {
-                win: sync::ranged::kept_window(k, win),
+                win: sync::plain::kept_window(k, win),
                 run: run,
             },
             phase: p,
@@ -62,10 +62,7 @@ fn after(r: Receiver, a: Ahead, b: Back, store: &mut [i16]) -> Receiver
     let h = a.heard;
     let p = h.phase;
     if heads::loses(es) {
-        receiver::ranged::started(
-            y.base + y.t + 1,
-            receiver::ranged::kept_of(left(r, a, b, p)),
-        )
+        receiver::plain::started(y.base + y.t + 1, receiver::plain::kept_of(left(r, a, b, p)))
     } else {
         let win = a.win;
         left(r, a, b, phased(y.t, p, win[0], win[1], store))

@@ -47,7 +47,7 @@ fn head_heard(l: Listened, h: Head) -> Listened
     let d = l.due;
     Listened {
         nco: tuned(n, h),
-        phase: phase::ranged::begun(h),
+        phase: phase::plain::begun(h),
         due: or_due(d, phase::ranged::due(p, h)),
     }
 }

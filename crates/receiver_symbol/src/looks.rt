@@ -32,7 +32,7 @@ fn step(r: Run, win: &[i16; 48], f: &[i8; 48], s: &[i8; 48], level: u32) -> Step
     requires { ⌜ (RunOk r) × (onesOf (now f) ≡ true) × (onesOf (now s) ≡ true) ⌝ }
     ensures { λ t. ⌜ (t ≡ stepOf 9296 r (bothOf (now (win .entry)) (now (f .entry)) (now (s .entry))) level) × (EventsOk (t .events)) ⌝ }
 {
-    let rows = sync_corr::ranged::rows(f, s);
+    let rows = sync_corr::plain::rows(f, s);
     let b = sync_corr::ranged::dots(win, &rows);
     sync_step::ranged::step(r, b, level)
 }
@@ -57,7 +57,7 @@ pub(crate) fn look(
     let st = step(q, &win, f, s, level);
     let es = st.events;
     let before = Listened {
-        nco: carrier::ranged::advanced(n),
+        nco: carrier::plain::advanced(n),
         phase: p,
         due: Due::Nothing,
     };

@@ -23,7 +23,7 @@ pub fn known(
     ensures { λ a. ⌜ (a ≡ symbolAnswer r (record { xi = xi; xq = xq; f = now (f .entry); s = now (s .entry); table = now (table .entry) }) (record { acc = now (acc .entry); store = now (store .entry); soft = now (soft .entry) })) × (now (acc .exit) ≡ symbolLent r (record { xi = xi; xq = xq; f = now (f .entry); s = now (s .entry); table = now (table .entry) }) (record { acc = now (acc .entry); store = now (store .entry); soft = now (soft .entry) }) .acc) × (now (store .exit) ≡ symbolLent r (record { xi = xi; xq = xq; f = now (f .entry); s = now (s .entry); table = now (table .entry) }) (record { acc = now (acc .entry); store = now (store .entry); soft = now (soft .entry) }) .store) × (now (soft .exit) ≡ symbolLent r (record { xi = xi; xq = xq; f = now (f .entry); s = now (s .entry); table = now (table .entry) }) (record { acc = now (acc .entry); store = now (store .entry); soft = now (soft .entry) }) .soft) ⌝ }
 {
     let y = r.front.sync.run;
-    let p = sync_step::ranged::place(y.t);
+    let p = sync_step::plain::place(y.t);
     let a = looks::look(r, xi, xq, f, s, table, acc[p]);
     slots::go_on(r, a, p, f, s, table, acc, store, soft)
 }

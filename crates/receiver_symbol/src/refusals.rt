@@ -8,9 +8,9 @@ ghost use Rattle.receiver_symbol.specs.Parts.{stateRefusal, soonRefusal,
 fn in_state(r: Receiver) -> u8
     ensures { λ n. ⌜ n ≡ stateRefusal r ⌝ }
 {
-    if receiver::ranged::receiver_within(r) {
+    if receiver::plain::receiver_within(r) {
         let y = r.front.sync.run;
-        let past = sync::ranged::past_end(y.base, y.t);
+        let past = sync::plain::past_end(y.base, y.t);
         if past { 7 } else { 0 }
     } else {
         6
@@ -30,7 +30,7 @@ pub(crate) fn soon(
     ensures { λ n. ⌜ n ≡ soonRefusal r acc store soft (now (f .entry)) (now (s .entry)) table ⌝ }
 {
     if (acc == 9296) & (store == 18592) & (44880 <= soft) {
-        if sync_corr::ranged::ones(f) & sync_corr::ranged::ones(s) {
+        if sync_corr::plain::ones(f) & sync_corr::plain::ones(s) {
             if table == 1024 { in_state(r) } else { 3 }
         } else {
             2

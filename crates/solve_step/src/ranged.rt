@@ -4,7 +4,7 @@ ghost use mathlib.Core.Path.{_≡_};
 ghost use Prim.Native.Nat.{_<_};
 ghost use Rattle.solve_step.specs.Complex.{entryAt, withEntry};
 
-pub fn entry(a: &[f64; 242], k: usize) -> Complex
+pub(crate) fn entry(a: &[f64; 242], k: usize) -> Complex
     requires { ⌜ k < 121 ⌝ }
     ensures { λ r. ⌜ r ≡ entryAt (now (a .entry)) k ⌝ }
 {
@@ -23,7 +23,7 @@ pub fn set_entry(a: &mut [f64; 242], k: usize, v: Complex)
 }
 
 // The same of the right side, or of the unknowns.
-pub fn right(b: &[f64; 22], k: usize) -> Complex
+pub(crate) fn right(b: &[f64; 22], k: usize) -> Complex
     requires { ⌜ k < 11 ⌝ }
     ensures { λ r. ⌜ r ≡ entryAt (now (b .entry)) k ⌝ }
 {

@@ -1,5 +1,6 @@
 // The slot sync, after `SlotSync` of chain/sync.rs. The state goes in by value and comes back; the 9,296 accumulators are lent, and so are the
 // two words, as 24 pairs each, I before Q.
+pub mod plain;
 pub mod ranged;
 mod refusals;
 
@@ -32,9 +33,9 @@ pub struct Pushed {
 pub fn new(at: u64, acc: &mut [u32]) -> Started
     ensures { λ r. ⌜ (r ≡ newAnswer at (now (acc .entry))) × (now (acc .exit) ≡ newAcc (now (acc .entry))) ⌝ }
 {
-    let s = ranged::started(at, Record::Never);
+    let s = plain::started(at, Record::Never);
     if acc.len() == 9296 {
-        ranged::clear(acc);
+        plain::clear(acc);
         Started {
             refusal: 0,
             sync: s,
@@ -52,7 +53,7 @@ pub fn push(s: SlotSync, i: i16, q: i16, f: [i8; 48], w: [i8; 48], acc: &mut [u3
     ensures { λ r. ⌜ (r ≡ pushAnswer s i q f w (now (acc .entry))) × (now (acc .exit) ≡ pushAcc s i q f w (now (acc .entry))) ⌝ }
 {
     let r = s.run;
-    let n = ranged::push_refusal(acc.len(), &f, &w, r);
+    let n = plain::push_refusal(acc.len(), &f, &w, r);
     if n == 0 {
         ranged::accepted(s, i, q, &f, &w, acc)
     } else {
@@ -67,12 +68,12 @@ pub fn restart(s: SlotSync, at: u64, acc: &mut [u32]) -> Started
     let r = s.run;
     let n = refusals::restart_refusal(acc.len(), at, r);
     if n == 0 {
-        ranged::clear(acc);
+        plain::clear(acc);
         let c = r.course;
         let f = c.last;
         Started {
             refusal: 0,
-            sync: ranged::started(at, f),
+            sync: plain::started(at, f),
         }
     } else {
         Started {

@@ -1,7 +1,7 @@
 // Why a restart is refused, and what a refused symbol answers.
 use crate::Pushed;
 use crate::SlotSync;
-use crate::ranged;
+use crate::plain;
 use sync_corr::Both;
 use sync_corr::Corr;
 use sync_step::Event;
@@ -16,12 +16,8 @@ pub(crate) fn restart_refusal(len: usize, at: u64, r: Run) -> u8
     ensures { λ n. ⌜ n ≡ restartRefusal len at r ⌝ }
 {
     if len == 9296 {
-        if sync_step::ranged::in_range(r) {
-            if ranged::before(at, r.base, r.t) {
-                7
-            } else {
-                0
-            }
+        if sync_step::plain::in_range(r) {
+            if plain::before(at, r.base, r.t) { 7 } else { 0 }
         } else {
             6
         }

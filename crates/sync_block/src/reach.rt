@@ -29,7 +29,7 @@ fn until(r: Run) -> usize
     if r.t < 23 {
         1
     } else {
-        let p = sync_step::ranged::place(r.t);
+        let p = sync_step::plain::place(r.t);
         let k = r.lock;
         loud_place(k, p) - p + 1
     }

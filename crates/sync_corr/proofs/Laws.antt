@@ -22,7 +22,7 @@ use Rattle.laws.proofs.Tests.{and-both, if-either}
 use Rattle.fx.specs.Fx.{magApprox}
 use Rattle.sync_corr.specs.declared.Both.{Both}
 use Rattle.sync_corr.specs.Correlate.{at, corrRe, corrIm, corr, bothOf, sizeOf, onesTo, onesOf}
-use Rattle.sync_corr.specs.Rows.{turnedAt, rowAt, rowsTo, rowsOf, Unit, dotTo, dotsOf}
+use Rattle.sync_corr.specs.Rows.{turnedAt, rowAt, rowsTo, rowsOf, SmallRows, dotTo, dotsOf}
 
 -- ---- entries of the rows
 rows-length : (f s : List ℤ) (n : ℕ) → length (rowsTo f s n) ≡ 192
@@ -121,9 +121,9 @@ row-unit f s ef es j h =
     Small : ℤ → Type 0
     Small z = natAbs z ≤ 1
 
-pub rows-unit : (f s : List ℤ) → onesOf f ≡ true → onesOf s ≡ true → Unit (rowsOf f s)
+pub rows-small : (f s : List ℤ) → onesOf f ≡ true → onesOf s ≡ true → SmallRows (rowsOf f s)
 unfolding rowsOf
-rows-unit f s ef es = record { small = λ j l. rw (rows-at f s 192 j l (le-refl 192)) (row-unit f s ef es j l) }
+rows-small f s ef es = record { small = λ j l. rw (rows-at f s 192 j l (le-refl 192)) (row-unit f s ef es j l) }
 
 -- ---- the sums of products are the correlations
 -- a row with a word's entries: the sum over 2 n numbers is the real part over n symbols

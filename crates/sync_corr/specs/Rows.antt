@@ -27,7 +27,7 @@ unfoldable pub rowsOf : List ℤ → List ℤ → List ℤ
 rowsOf f s = rowsTo f s 192
 
 -- each entry is of size at most 1
-pub record Unit (rows : List ℤ) : Type 0 where
+pub record SmallRows (rows : List ℤ) : Type 0 where
   pub small : (j : ℕ) → j < 192 → natAbs (at rows j) ≤ 1
 
 -- the first n products of a window with the row that begins at b

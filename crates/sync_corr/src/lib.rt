@@ -1,4 +1,5 @@
 // Correlation of 24 symbols with the sync words, after `correlate` of chain/sync.rs. Symbols and words are lists of 24 pairs, I before Q.
+pub mod plain;
 pub mod ranged;
 mod rows;
 
@@ -24,8 +25,8 @@ pub enum Correlated {
 pub fn correlate(r: [i16; 48], w: [i8; 48]) -> Correlated
     ensures { λ a. ⌜ a ≡ correlateAnswer r w ⌝ }
 {
-    if ranged::ones(&w) {
-        let rows = ranged::rows(&w, &w);
+    if plain::ones(&w) {
+        let rows = plain::rows(&w, &w);
         let b = ranged::dots(&r, &rows);
         let c = b.f;
         Correlated::Value(c)

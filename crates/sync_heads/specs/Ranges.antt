@@ -1,4 +1,4 @@
--- The ranges of docs/RANGES.md, "Slot sync", for stage and course. b bounds the symbols: 32,768 for any, 4,096 and less in a receiver.
+-- The ranges of docs/RANGES.md, "Slot sync", for stage and course. Symbols are of 16 bits.
 use Prim.Native.Nat.{ℕ, _*_, _-_, _^_}
 use mathlib.Core.Bool.{Bool, true, _&&_}
 use lib.Dec.{leb}

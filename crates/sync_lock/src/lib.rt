@@ -1,4 +1,5 @@
 // The lock: the figures of a period and the rule at its end, after `push` and `period_end` of chain/sync.rs.
+pub mod plain;
 pub mod ranged;
 
 // The running figures of a period: its first greatest accumulator, that one's position, and the sum of all.

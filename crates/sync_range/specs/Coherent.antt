@@ -1,4 +1,4 @@
--- What is true together of the numbers of a slot sync that came from calls: docs/RANGES.md, "jointly". Periods are numbered from the start,
+-- What is true together of the numbers of a slot sync that came from calls: docs/RANGES.md, under Slot sync, what is told jointly. Periods are numbered from the start,
 -- heads from the lock on, both from 0.
 use mathlib.Core.Path.{_≡_}
 use mathlib.Core.Bool.{true}

@@ -258,7 +258,7 @@ pub(crate) fn ended(r: Run, last: LastCorr, es: Events) -> Step
         let f = c.last;
         lost(r.base + r.t, f, es)
     } else {
-        let n = with_lock(r, sync_lock::ranged::lock_after(v));
+        let n = with_lock(r, sync_lock::plain::lock_after(v));
         kept(n, last, then(es, Event::Period(stats(n))))
     }
 }

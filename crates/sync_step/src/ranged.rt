@@ -1,5 +1,4 @@
 // For the slot sync and the receiver, which prove the ranges.
-use crate::Events;
 use crate::LastCorr;
 use crate::Run;
 use crate::Step;
@@ -8,31 +7,12 @@ use crate::ends;
 use sync_corr::Both;
 use sync_heads::Headed;
 use sync_heads::Reading;
-use sync_heads::Record;
 use sync_heads::Taken;
 ghost use mathlib.Core.Path.{_≡_};
-ghost use Prim.Native.Nat.{_+_, _≤_, _<_, _^_};
+ghost use Prim.Native.Nat.{_+_, _≤_, _<_};
 ghost use Rattle.sync_heads.specs.Ready.{Smalls};
-ghost use Rattle.sync_step.specs.Step.{startedOf, placeOf, readingOf, takenOf, afterOf, lateOf, earlyOf, stepOf};
-ghost use Rattle.sync_step.specs.Ranges.{runInRange, RunOk};
-
-// A sync that starts at a position, with the last frame record.
-pub fn started(at: u64, last: Record) -> Run
-    ensures { λ r. ⌜ r ≡ startedOf at last ⌝ }
-{
-    ends::started(at, last)
-}
-
-// The position in the period of the window that the next symbol completes, after t symbols.
-pub fn place(t: u64) -> usize
-    ensures { λ p. ⌜ (p ≡ placeOf 9296 t) × (p < 9296) ⌝ }
-{
-    if t < 23 {
-        0
-    } else {
-        ((t - 23) % 9296) as usize
-    }
-}
+ghost use Rattle.sync_step.specs.Step.{takenOf, afterOf, lateOf, earlyOf, stepOf};
+ghost use Rattle.sync_step.specs.Ranges.{RunOk};
 
 // What the window at position p is read as: a head, if the sync is locked there.
 fn taken(r: Run, p: usize, b: Both) -> Taken
@@ -42,7 +22,7 @@ fn taken(r: Run, p: usize, b: Both) -> Taken
     let k = r.lock;
     let s = r.stage;
     let c = r.course;
-    if sync_lock::ranged::locked_at(k, p) {
+    if sync_lock::plain::locked_at(k, p) {
         let at = r.base + r.t - 23;
         sync_heads::ranged::read(s, c, Reading { at: at, both: b })
     } else {
@@ -80,8 +60,8 @@ fn late(r: Run, b: Both, a: u32) -> Step
     requires { ⌜ (RunOk r) × (Smalls b) × (23 ≤ r .t) ⌝ }
     ensures { λ s. ⌜ s ≡ lateOf 9296 r b a ⌝ }
 {
-    let p = place(r.t);
-    let level = sync_lock::ranged::leak(a, sync_corr::ranged::size(b));
+    let p = crate::plain::place(r.t);
+    let level = sync_lock::plain::leak(a, sync_corr::plain::size(b));
     let k = taken(r, p, b);
     let es = ends::heads_of(k);
     if k.lost {
@@ -139,19 +119,4 @@ pub fn step(r: Run, b: Both, a: u32) -> Step
     ensures { λ s. ⌜ s ≡ stepOf 9296 r b a ⌝ }
 {
     if r.t < 23 { early(r) } else { late(r, b, a) }
-}
-
-// Every number in the range that calls leave.
-pub fn in_range(r: Run) -> bool
-    ensures { λ t. ⌜ t ≡ runInRange r ⌝ }
-{
-    let y = r.tally;
-    let l = r.lock;
-    let k = r.stage;
-    let c = r.course;
-    (r.t <= 4611686018427387904)
-        & sync_lock::ranged::tally_in_range(y)
-        & sync_lock::ranged::lock_in_range(l)
-        & sync_heads::ranged::stage_in_range(k)
-        & sync_heads::ranged::course_in_range(c)
 }

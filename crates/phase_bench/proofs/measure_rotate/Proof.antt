@@ -13,7 +13,7 @@ use Rattle.phase_bench.proofs.measure_rotate.Statement.{statement}
 use Rattle.phase_bench.proofs.measure_rotate.Tie as tie
 use Rattle.phase_bench.proofs.measure_rotate.Reads as reads
 use Rattle.phase_bench.proofs.measure_rotate.Lts as lts
-use Rattle.carrier.proofs.ranged.started.Reads as started-reads
+use Rattle.carrier.proofs.plain.started.Reads as started-reads
 use Rattle.phase_bench.proofs.rotate_all.Reads as rotate-all-reads
 
 -- src/lib.rt:35:13

@@ -15,7 +15,7 @@ use Rattle.phase_bench.proofs.rotate_all.Statement.{statement}
 use Rattle.phase_bench.proofs.rotate_all.Tie as tie
 use Rattle.phase_bench.proofs.rotate_all.Reads as reads
 use Rattle.phase_bench.proofs.rotate_all.Lts as lts
-use Rattle.carrier.proofs.ranged.advanced.Reads as advanced-reads
+use Rattle.carrier.proofs.plain.advanced.Reads as advanced-reads
 use Rattle.carrier.proofs.ranged.rotated.Reads as rotated-reads
 
 abbrev Inv-loop : tie.InvT-loop

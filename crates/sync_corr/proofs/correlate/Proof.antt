@@ -8,7 +8,7 @@ use Rattle.sync_corr.specs.Correlate.{bothOf, onesOf, correlateAnswer}
 use Rattle.sync_corr.specs.Rows.{dotsOf}
 use Rattle.sync_corr.specs.declared.Both.{Both}
 use Rattle.sync_corr.specs.declared.Correlated.the-variants.{Value}
-use Rattle.sync_corr.proofs.Laws.{rows-unit, dots-both}
+use Rattle.sync_corr.proofs.Laws.{rows-small, dots-both}
 use Rattle.sync_corr.proofs.correlate.Statement.{statement}
 use Rattle.sync_corr.proofs.correlate.Tie as tie
 
@@ -26,7 +26,7 @@ dots-requires : tie.Need-dots-requires
 dots-requires c κs =
     let w = c .before .before .before .before .before .before .before .before .args .t2 in
     let e = passed (c .before .before .before .before .before) in
-    rw (c .before .before .rows .ensures) (rows-unit w w e e)
+    rw (c .before .before .rows .ensures) (rows-small w w e e)
 
 returns : tie.Need-returns
 unfolding bothOf correlateAnswer

@@ -14,10 +14,10 @@ use Rattle.eq_train.proofs.ranges.right_in_range.Statement.{statement}
 use Rattle.eq_train.proofs.ranges.right_in_range.Tie as tie
 
 abbrev Inv-loop : tie.InvT-loop
-Inv-loop p all₀ r₀ all r = (r ≤ 11) × ((all && rightInRange p r (11 - r)) ≡ rightInRange p 0 11)
+Inv-loop n p all₀ r₀ all r = (r ≤ 11) × ((all && rightInRange n p r (11 - r)) ≡ rightInRange n p 0 11)
 
 abbrev μ-loop : tie.MeasureT-loop
-μ-loop p all₀ r₀ all r = 11 - r
+μ-loop n p all₀ r₀ all r = 11 - r
 
 loop-holds : tie.Need-loop-holds Inv-loop μ-loop
 loop-holds c = (omega arith, refl)
@@ -59,14 +59,14 @@ loop-again c =
     let p = now (S .p) in
     let t = c .before .before .before .loop-test .taken in
     let f = rw (back w64 (nth p (2 * L .r)) (c .before .before .product-in-range-arg .given), back w64 (nth p (2 * L .r + 1)) (c .before .product-in-range-arg2 .given)) at (c .product-in-range .ensures) in
-    (omega (arith, t), right-next p (L .r) (L .all) (c .product-in-range .result) t f ∙ L .inv .1)
+    (omega (arith, t), right-next (S .n) p (L .r) (L .all) (c .product-in-range .result) t f ∙ L .inv .1)
 
 returns : tie.Need-returns Inv-loop μ-loop
 returns c =
     let L = c .before .loop in
     let S = c .before .before .args in
     let e : L .r ≡ 11 = omega (arith, L .inv .0, c .loop-test) in
-    sym (right-end (now (S .p)) (L .all)) ∙ rw e at (L .inv .1)
+    sym (right-end (S .n) (now (S .p)) (L .all)) ∙ rw e at (L .inv .1)
 
 pub right-in-range-spec : {M : Type 1} → statement M
 right-in-range-spec =

@@ -20,11 +20,11 @@ further : (r c k : ℕ) → k ≡ 2 * upperAt r c → k + 2 ≡ 2 * upperAt r (c
 further r c k e = rw (add-one c) (omega (arith, next-column r c))
 
 abbrev Inv-loop : tie.InvT-loop
-Inv-loop s r at all₀ c₀ k₀ all c k =
-    (r < c) × (c ≤ 11) × (k ≡ 2 * upperAt r c) × (k + 2 * (11 - c) ≤ 132) × ((all && rowInRange s r c (11 - c)) ≡ rowInRange s r r (11 - r))
+Inv-loop n s r at all₀ c₀ k₀ all c k =
+    (r < c) × (c ≤ 11) × (k ≡ 2 * upperAt r c) × (k + 2 * (11 - c) ≤ 132) × ((all && rowInRange n s r c (11 - c)) ≡ rowInRange n s r r (11 - r))
 
 abbrev μ-loop : tie.MeasureT-loop
-μ-loop s r at all₀ c₀ k₀ all c k = 11 - c
+μ-loop n s r at all₀ c₀ k₀ all c k = 11 - c
 
 mul-diagonal-in-range : tie.Need-mul-diagonal-in-range Inv-loop μ-loop
 mul-diagonal-in-range c = search needs
@@ -63,7 +63,7 @@ loop-holds c =
       omega arith,
       further r r at e,
       omega (arith, S .pre),
-      row-one s r r (c .diagonal-in-range .result) (S .pre .0) (f ∙ sym (diagonal-entry s r)),
+      row-one (S .args .n) s r r (c .diagonal-in-range .result) (S .pre .0) (f ∙ sym (diagonal-entry (S .args .n) s r)),
     )
 
 mul-product-in-range : tie.Need-mul-product-in-range Inv-loop μ-loop
@@ -105,7 +105,7 @@ loop-again c =
       omega (arith, t),
       further (S .r) (L .c) (L .k) e,
       omega (arith, t, L .inv .3),
-      row-next s (S .r) (L .c) (L .all) (c .product-in-range .result) t (f ∙ sym (product-entry s (S .r) (L .c) (L .inv .0))) ∙ L .inv .4,
+      row-next (S .n) s (S .r) (L .c) (L .all) (c .product-in-range .result) t (f ∙ sym (product-entry (S .n) s (S .r) (L .c) (L .inv .0))) ∙ L .inv .4,
     )
 
 returns : tie.Need-returns Inv-loop μ-loop
@@ -113,7 +113,7 @@ returns c =
     let L = c .before .loop in
     let S = c .before .before .before .before .before .args in
     let e : L .c ≡ 11 = omega (arith, L .inv .1, c .loop-test) in
-    sym (row-end (now (S .s)) (S .r) (L .all)) ∙ rw e at (L .inv .4)
+    sym (row-end (S .n) (now (S .s)) (S .r) (L .all)) ∙ rw e at (L .inv .4)
 
 pub row-in-range-spec : {M : Type 1} → statement M
 row-in-range-spec =

@@ -3,7 +3,7 @@ use Prim.Native.Nat.{_-_}
 use mathlib.Core.Path.{_≡_, refl, sym, ap, _∙_}
 use native.Mathlib.Omega.{arith}
 use denote.Ref.{now}
-use Rattle.sync_corr.proofs.Laws.{rows-unit}
+use Rattle.sync_corr.proofs.Laws.{rows-small}
 use Rattle.receiver_feed.specs.Turns.{calmOf}
 use Rattle.receiver_feed.proofs.Calm.{calm-known, tally-in}
 use Rattle.receiver_feed.proofs.Stand.{both-end, stands-same, stretch-end, stretch-left}
@@ -25,7 +25,7 @@ stretch-requires c κs =
     let o = c .before .before .before .before .before .before in
     let p = o .pre in
     let k = calm-known (o .args .r) _ _ (c .before .before .before .before .calm .ensures) (c .before .before .before .if1 .left) in
-    (k .0, k .1, omega (arith, c .before .before .before .if1 .left), omega (arith, k .2, p .0, p .1), rw (p .2) (rows-unit (now (o .args .f)) (now (o .args .s)) (p .3 .first) (p .3 .second)), p .3 .cosines, p .3 .long, p .3 .held)
+    (k .0, k .1, omega (arith, c .before .before .before .if1 .left), omega (arith, k .2, p .0, p .1), rw (p .2) (rows-small (now (o .args .f)) (now (o .args .s)) (p .3 .first) (p .3 .second)), p .3 .cosines, p .3 .long, p .3 .held)
 
 add-single : tie.Need-add-single
 add-single c =
@@ -49,7 +49,7 @@ stretch-requires-2 c κs =
     let w : o .args .n - o .args .i ≡ c .before .before .before .before .calm .result = omega (arith, k .2, c .before .before .if2 .left) in
     let e : o .args .n - o .args .i ≡ calmOf (o .args .r) (o .args .n - o .args .i) = w ∙ c .before .before .before .before .calm .ensures in
     let j = calm-known (o .args .r) _ _ e (λ z. c .before .before .before .if1 .left (sym w ∙ z)) in
-    (j .0, j .1, omega (arith, p .0), omega (arith, p .0, p .1), rw (p .2) (rows-unit (now (o .args .f)) (now (o .args .s)) (p .3 .first) (p .3 .second)), p .3 .cosines, p .3 .long, p .3 .held)
+    (j .0, j .1, omega (arith, p .0), omega (arith, p .0, p .1), rw (p .2) (rows-small (now (o .args .f)) (now (o .args .s)) (p .3 .first) (p .3 .second)), p .3 .cosines, p .3 .long, p .3 .held)
 
 add-t43 : tie.Need-add-t43
 add-t43 c = let o = c .before .before .before .before .before .before .before .before .before .before .before .before in omega (arith, c .before .before .before .before .before .stretch2 .ensures .4, o .pre .0, o .pre .1, o .good .1 .1 .1 .0 .0)

@@ -1,7 +1,7 @@
 -- `receiver_symbol::looks::step` meets its contract. Assumes nothing.
 use Rattle.receiver_symbol.proofs.Events.{step-ok}
 use Rattle.receiver_symbol.specs.Parts.{EventsOk}
-use Rattle.sync_corr.proofs.Laws.{dots-both, rows-unit}
+use Rattle.sync_corr.proofs.Laws.{dots-both, rows-small}
 use Rattle.sync_heads.specs.Ready.{Smalls}
 use Rattle.sync_step.specs.declared.Step.{Step}
 use borrow.Author.Needs.{needs}
@@ -16,7 +16,7 @@ rows-requires c κs = search needs
 dots-requires : tie.Need-dots-requires
 dots-requires c κs =
     let o = c .before .before in
-    rw (c .before .rows .ensures) (rows-unit (now (o .args .f)) (now (o .args .s)) (o .pre .1) (o .pre .2))
+    rw (c .before .rows .ensures) (rows-small (now (o .args .f)) (now (o .args .s)) (o .pre .1) (o .pre .2))
 
 step-requires : tie.Need-step-requires
 step-requires c κs = search needs

@@ -1,6 +1,6 @@
 -- The results of the parts, put together. Assumes nothing.
 use Rattle.laws.proofs.Size.{at}
-use Rattle.sync_corr.proofs.Laws.{dots-both, rows-unit}
+use Rattle.sync_corr.proofs.Laws.{dots-both, rows-small}
 use Rattle.sync_corr.specs.Correlate.{bothOf}
 use Rattle.sync_corr.specs.Rows.{dotsOf}
 use Rattle.sync.proofs.Laws.{accepted-is, accepted-stores}
@@ -24,7 +24,7 @@ rows-requires c κs = search needs
 dots-requires : tie.Need-dots-requires
 dots-requires c κs =
     let o = c .before .before .before .before .before .before .before .before in
-    rw (c .before .before .rows .ensures) (rows-unit (now (o .args .f)) (now (o .args .w)) (o .pre .1) (o .pre .2))
+    rw (c .before .before .rows .ensures) (rows-small (now (o .args .f)) (now (o .args .w)) (o .pre .1) (o .pre .2))
 
 place-requires : tie.Need-place-requires
 place-requires c κs = search needs

@@ -13,7 +13,7 @@ use mir.Val.{SFits, toZ, ofZ}
 use mir.Facts.{toZ-ofZ}
 use Rattle.laws.proofs.Size.{Num, arg, arg-le, plus, times, sfits-abs}
 use Rattle.sync_corr.specs.Correlate.{at}
-use Rattle.sync_corr.specs.Rows.{Unit, dotTo, dotsOf}
+use Rattle.sync_corr.specs.Rows.{SmallRows, dotTo, dotsOf}
 use Rattle.sync_corr.proofs.ranged.dots.Statement.{statement}
 use Rattle.sync_corr.proofs.ranged.dots.Tie as tie
 
@@ -35,12 +35,12 @@ read {win} {rows} {b} {n} s h =
     }
 
 -- what the call asks
-asked : {win rows : List ℤ} {b n v : ℕ} (j : ℕ) → Sum win rows b n v → n < 48 → Unit rows → j < 192 → SFits w16 (at rows j) →
+asked : {win rows : List ℤ} {b n v : ℕ} (j : ℕ) → Sum win rows b n v → n < 48 → SmallRows rows → j < 192 → SFits w16 (at rows j) →
     (natAbs (toZ w32 v) ≤ 2 ^ 30) × (natAbs (toZ w16 (ofZ w16 (at rows j))) ≤ 1)
 asked j s h u k f = rw (read s (le-of-lt h) .is, toZ-ofZ f) (omega (arith, s .small), u .small j k)
 
 -- one more product
-more : {win rows : List ℤ} {b n v : ℕ} (j : ℕ) (r : ℤ) → j ≡ b + n → Sum win rows b n v → n < 48 → Unit rows → j < 192 → SFits w16 (at win n) → SFits w16 (at rows j) →
+more : {win rows : List ℤ} {b n v : ℕ} (j : ℕ) (r : ℤ) → j ≡ b + n → Sum win rows b n v → n < 48 → SmallRows rows → j < 192 → SFits w16 (at win n) → SFits w16 (at rows j) →
     r ≡ toZ w32 v +ℤ (toZ w16 (ofZ w16 (at win n)) *ℤ toZ w16 (ofZ w16 (at rows j))) → Sum win rows b (n + 1) (ofZ w32 r)
 unfolding dotTo
 more {n = n} j r i s h u k x y e =
