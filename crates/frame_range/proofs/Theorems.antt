@@ -180,11 +180,10 @@ waits k c a j l = rw (le-leb k (c .at) a, j, l)
 
 -- a symbol that adjoins has all that wait before it
 joined-before : (b : Back) (at : ℕ) → CoherentBack b → joinedTo b at .metas .count ≤ at
-unfolding joinedTo restartedBack startedBack noMetas
+unfolding joinedTo restartedBack startedBack noMetas upTo gapAt
 joined-before b at k = if-either (λ (x : Back). x .metas .count ≤ at) (gapAt (b .last) at) _ b (λ t. omega arith) (λ t. before (b .last) (k .adjoin) t)
   where
     before : (l : LastAt) → b .metas .count ≤ upTo l → gapAt l at ≡ false → b .metas .count ≤ at
-    unfolding upTo gapAt
     before Never h t = omega (arith, h)
     before (At a) h t = omega (arith, h, eqb-true (a + 1) at (not-false (eqb (a + 1) at) t))
 

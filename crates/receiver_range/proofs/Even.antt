@@ -1,15 +1,16 @@
 -- Angles of the CORDIC are even, and so is the turn from one to another. Assumes nothing.
 use Prim.Native.Nat.{ℕ, zero, suc, _+_, _-_, _*_, _%_, _^_, _≤_}
-use mathlib.Core.Bool.{true, false}
-use mathlib.Core.Path.{_≡_, refl, ap, _∙_}
+use mathlib.Core.Bool.{Bool, true, _&&_}
+use mathlib.Core.List.{List, [], _∷_}
+use mathlib.Core.Path.{_≡_, refl, ap}
 use native.Mathlib.Omega.{arith}
-use borrow.Author.Tests.{ltb-true, ltb-false}
-use lib.Dec.{ltb}
+use borrow.Author.Tests.{leb-true, ltb-true}
+use lib.Dec.{leb, ltb}
 use lib.IntN.{ℤ, pos, _+ℤ_, _-ℤ_}
 use lib.ListN.{getD}
-use lib.Signed.{_≤ℤ_, ltZ}
+use lib.Signed.{_≤ℤ_}
 use Rattle.laws.proofs.Linear.{dif-ud, le-ud, sum-ud, ud-le}
-use Rattle.laws.proofs.Tests.{if-both, if-either}
+use Rattle.laws.proofs.Tests.{and-both, if-both, if-either}
 use Rattle.fx.specs.Cordic.{cordicAngles, rightHalf, cordicStart, cordicStep, cordicSteps, cordicOf}
 use Rattle.fx.specs.Fx.{signedAngle}
 use Rattle.fx.specs.declared.Turn.{Turn}
@@ -35,11 +36,25 @@ step-parity : (t : Turn) (i a : ℕ) → a ≤ 2 ^ 32 → cordicStep t i a .z % 
 unfolding cordicStep
 step-parity t i a h = if-both (λ (x : Turn). x .z % 2 ≡ (t .z + a) % 2) _ _ _ (omega arith) (omega (arith, h))
 
+allSmall : List ℕ → Bool
+allSmall [] = true
+allSmall (a ∷ l) = leb a (2 ^ 32) && allSmall l
+
+entry-small : (l : List ℕ) (i : ℕ) → allSmall l ≡ true → getD l i 0 ≤ 2 ^ 32
+unfolding allSmall
+entry-small [] i e = omega arith
+entry-small (a ∷ l) zero e = leb-true a (2 ^ 32) (and-both (leb a (2 ^ 32)) (allSmall l) e .0)
+entry-small (a ∷ l) (suc i) e = entry-small l i (and-both (leb a (2 ^ 32)) (allSmall l) e .1)
+
+angles-small : allSmall cordicAngles ≡ true
+unfolding allSmall cordicAngles
+angles-small = refl
+
 angle-small : (i : ℕ) → getD cordicAngles i 0 ≤ 2 ^ 32
-angle-small i = ?
+angle-small i = entry-small cordicAngles i angles-small
 
 steps-parity : (n : ℕ) (t : Turn) → cordicSteps n t .z % 2 ≡ (t .z + total n) % 2
-unfolding cordicSteps
+unfolding cordicSteps total
 steps-parity zero t = ap (λ (k : ℕ). k % 2) (omega arith)
 steps-parity (suc i) t =
     let s = cordicSteps i t in
@@ -50,7 +65,7 @@ unfolding cordicStart rightHalf
 start-even re im = if-both (λ (x : Turn). x .z % 2 ≡ 0) _ _ _ refl refl
 
 total-even : total 16 % 2 ≡ 0
-unfolding cordicAngles
+unfolding cordicAngles total
 total-even = refl
 
 pub cordic-even : (re im : ℤ) → cordicOf re im .angle % 2 ≡ 0
@@ -73,18 +88,17 @@ unfolding turnFrom
 turn-even a b h k = signed-even ((b + (2 ^ 32 - a)) % 2 ^ 32) (rest-even a b h k) (omega arith)
 
 -- ---- a head with an even angle is heard
-more : (m n : ℤ) (k : ℕ) → m ≤ℤ pos (k * (2 ^ 31 - 2)) → n ≤ℤ pos (2 ^ 31 - 2) → m +ℤ n ≤ℤ pos ((k + 1) * (2 ^ 31 - 2))
+more : (m n : ℤ) (k : ℕ) → m ≤ℤ pos (k * (2 ^ 31 - 2)) → n ≤ℤ pos (2 ^ 31 - 2) → (m +ℤ n) ≤ℤ pos ((k + 1) * (2 ^ 31 - 2))
 more m n k h l = le-ud (m +ℤ n) (pos ((k + 1) * (2 ^ 31 - 2))) (omega (arith, sum-ud m n, ud-le h, ud-le l))
 
 none-yet : pos 0 ≤ℤ pos (0 * (2 ^ 31 - 2))
 none-yet = le-ud (pos 0) (pos (0 * (2 ^ 31 - 2))) (omega arith)
 
 word-even : (n : Nco) (w : Word) (theta : ℕ) → theta % 2 ≡ 0 → TrailEven (n .trail) → TrailEven (wordHeard n w theta .nco .trail)
-unfolding wordHeard
+unfolding wordHeard trailHeard ssyncHeard
 word-even n Ssync theta h k = go (n .trail) k
   where
     go : (t : Trail) → TrailEven t → TrailEven (trailHeard n t theta .nco .trail)
-    unfolding trailHeard ssyncHeard
     go Empty e = record { last = h; high = none-yet }
     go (Since s) e =
         if-both (λ (x : Heard). TrailEven (x .nco .trail)) _ _ _

@@ -1,5 +1,5 @@
 -- What an accepted symbol makes of a coherent receiver. Assumes nothing.
-use Prim.Native.Nat.{ℕ, _+_, _-_, _*_, _^_, _≤_, _<_}
+use Prim.Native.Nat.{ℕ, suc, _+_, _-_, _*_, _^_, _≤_, _<_}
 use mathlib.Core.Bool.{true, false, not}
 use mathlib.Core.List.{List, [], _∷_}
 use mathlib.Core.Logic.{_⊎_, inl, inr}
@@ -228,10 +228,10 @@ due-count q Idle n (Slot w) b table store f g hf hg p u z k o = absurd z
 due-count q (Holds x) n (Slot w) b table store f g hf hg p u z k o =
     let v : Untouched b ⊎ Adjoins (w .head .at) b = subst (λ i. Untouched b ⊎ Adjoins (i .at) b) (sym (z .head)) u in
     let i : slotInRange (w .head .slot) ≡ true = rw (z .head) (p .head .slot) in
-    let open : b .eq .opened ≡ true = sym (slot-opened w table store f g hf hg i b v) ∙ o in
+    let before : b .eq .opened ≡ true = sym (slot-opened w table store f g hf hg i b v) ∙ o in
     let low : 46480 ≤ w .head .at = rw (z .head) (held-low q x p) in
     let line = slot-adjoins w table store f g hf hg i b low v .full in
-    go i line (k open) open v
+    go i line (k before) before v
   where
     c : Back
     c = afterAll b (correctedAll 9296 w table store) f g
@@ -245,11 +245,11 @@ due-count q (Holds x) n (Slot w) b table store f g hf hg p u z k o =
     later m h (inr e) = inr (omega (arith, h, e))
 
     go : slotInRange (w .head .slot) ≡ true → c .eq .filled ≡ 11 → CountFits b → b .eq .opened ≡ true → Untouched b ⊎ Adjoins (w .head .at) b → CountFits c
-    go i line k open (inl v) =
-        let t = slot-first w table store f g hf hg i b v .counted open in
+    go i line k o (inl v) =
+        let t = slot-first w table store f g hf hg i b v .counted o in
         record { slots = 0; count = inr (omega (arith, t, k .none (v .empty))); none = not-0 line }
-    go i line k open (inr v) =
-        let t = slot-later w table store f g hf hg i b v .counted open in
+    go i line k o (inr v) =
+        let t = slot-later w table store f g hf hg i b v .counted o in
         record { slots = suc (k .slots); count = later (k .slots) t (k .count); none = not-0 line }
 
 module _ (r : Receiver) (x : Input) (l : Lent) (c : CoherentReceiver r) (a : Takes r x l) where
@@ -267,7 +267,7 @@ module _ (r : Receiver) (x : Input) (l : Lent) (c : CoherentReceiver r) (a : Tak
         eq = b .coherent;
         right = b .right;
         count = due-count (r .front .sync .run) (r .front .phase) _ (heads 9296 r x l .due) (r .back) (x .table) (l .store) (x .f) (x .s) (a .first) (a .second) (c .phase) (c .back)
-        (due-fits r x l c) (c .count);
+            (due-fits r x l c) (c .count);
         back = due-back (r .front .sync .run) (r .front .phase) _ (heads 9296 r x l .due) (r .back) (x .table) (l .store) (x .f) (x .s) (a .first) (a .second) (c .phase) (c .back) (y .1);
         points = c .points;
       }
