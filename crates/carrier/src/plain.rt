@@ -35,7 +35,7 @@ fn steps_in_range(s: Steps) -> bool
     (s.steps <= 59) & (-126701535232 <= s.sum) & (s.sum <= 126701535173)
 }
 
-pub fn in_range(n: Nco) -> bool
+pub(crate) fn in_range(n: Nco) -> bool
     ensures { λ r. ⌜ r ≡ ncoInRange n ⌝ }
 {
     let t = n.trail;

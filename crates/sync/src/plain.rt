@@ -23,7 +23,7 @@ pub fn started(at: u64, last: Record) -> SlotSync
 }
 
 // 0, or why a symbol is not taken: in the order of document 01's table.
-pub fn push_refusal(len: usize, f: &[i8; 48], w: &[i8; 48], r: Run) -> u8
+pub(crate) fn push_refusal(len: usize, f: &[i8; 48], w: &[i8; 48], r: Run) -> u8
     ensures { λ n. ⌜ n ≡ pushRefusal len (now (f .entry)) (now (w .entry)) r ⌝ }
 {
     if len == 9296 {

@@ -26,7 +26,14 @@ pub fn shift(win: &mut [i16; 48], i: i16, q: i16)
 }
 
 // A symbol that is taken: all is known before the accumulator is written.
-pub fn accepted(s: SlotSync, i: i16, q: i16, f: &[i8; 48], w: &[i8; 48], acc: &mut [u32]) -> Pushed
+pub(crate) fn accepted(
+    s: SlotSync,
+    i: i16,
+    q: i16,
+    f: &[i8; 48],
+    w: &[i8; 48],
+    acc: &mut [u32],
+) -> Pushed
     requires { ⌜ (RunOk (s .run)) × (onesOf (now f) ≡ true) × (onesOf (now w) ≡ true) × (length (now acc) ≡ 9296) ⌝ }
     ensures { λ r. ⌜ (r ≡ acceptedPush s i q (now (f .entry)) (now (w .entry)) (now (acc .entry))) × (now (acc .exit) ≡ acceptedAcc s i q (now (f .entry)) (now (w .entry)) (now (acc .entry))) ⌝ }
 {
