@@ -1,5 +1,5 @@
-// The C boundary: each entry of the port as a C function, with no `requires`, since C could not be held to one. An answer is a struct
-// by value (docs/DECISIONS.md, F.3). Here is fx; `stages` has the rest.
+// The C boundary: the entries of fx and some of the stages' as C functions, with no `requires`, since C could not be held to one. An answer is
+// a struct by value (docs/DECISIONS.md, F.3). Here is fx; `stages` has the stages'.
 pub mod stages;
 
 use fx::Phasor;
