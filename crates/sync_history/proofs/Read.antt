@@ -190,7 +190,7 @@ module _ (n start : ℕ) (kept : Record) (b : ℕ → Both) where
       before i e = by-test (ssyncAt b (suc i)) (λ t. t) (λ t. absurd (never (sym (turn-s (suc i) t) ∙ e)))
 
   -- head zero waits: nothing is known of it, whatever it is
-  course-zero : courseTo n start kept b 0 ≡ record { majority = pos 0; slot = Unknown; last = kept; misses = 0; stray = 0; missed = 0 }
+  pub course-zero : courseTo n start kept b 0 ≡ record { majority = pos 0; slot = Unknown; last = kept; misses = 0; stray = 0; missed = 0 }
   unfolding courseTo courseSince firstTo majority slotSince recordSince heldSince straysTo missesTo capped
   course-zero = refl
 

@@ -17,8 +17,10 @@ use Rattle.sync_tie.proofs.Kept.{lock-by, locked-by, locked-is, reads-l
 use Rattle.sync_tie.proofs.Places.{parts}
 use Rattle.sync_tie.specs.Claims.{KeptClaim, HeadClaim, LockClaim, NoLockClaim, ReadingClaim, RelockClaim, after, anyHead, reading}
 use Rattle.sync_tie.specs.Pushes.{Push, sizeAt}
-use Rattle.sync_tie.specs.Story.{lockAt, readsAt, tells, toldAt}
-use Rattle.sync_tie.specs.Tie.{Kept}
+use Rattle.sync_tie.proofs.Story.{lockAt, readsAt, takenAt, tells, toldAt}
+use Rattle.sync_tie.proofs.Theorems.{kept-fold, kept-rule, ruled-at, tells-same}
+use Rattle.sync_tie.specs.Stretch as Stretch
+use Rattle.sync_tie.proofs.Story.{Kept}
 use borrow.Author.Tests.{eq-eqb, ltb-false, ltb-true}
 use lib.Dec.{lit≤, ltb}
 use lib.ListN.{length}
@@ -26,6 +28,8 @@ use mathlib.Core.Bool.{true}
 use mathlib.Core.List.{List}
 use mathlib.Core.Path.{_∙_, _≡_, ap, sym}
 use native.Mathlib.Omega.{arith}
+-- for every list of pushes: the loss by markers
+pub use Rattle.sync_tie.proofs.Markers.{markers-are}
 
 module _ (n base : ℕ) (last : Record) (h : List Push) where
   lock-is : (m : ℕ) → 0 < n → m ≤ length h → Kept n base last h m → after n base last h m .sync .run .lock ≡ lockTo n (sizeAt h) ((m - 23) / n)
@@ -40,8 +44,8 @@ module _ (n base : ℕ) (last : Record) (h : List Push) where
 pub lock-told : LockClaim
 unfolding isLocked offsetOf
 lock-told n base last h m z l k =
-    let e = lock-is n base last h m z l k in
-    let t = rule-kept n base last h m z k in
+    let e = lock-is n base last h m z l (kept-fold n base last h m z k) in
+    let t = rule-kept n base last h m z (kept-fold n base last h m z k) in
     record {
       locked = λ p b. let w = t .locked p (locked-by n (sizeAt h) p m z b) in (ap isLocked (e ∙ w .1), ap offsetOf (e ∙ w .1));
       locked-only =
@@ -53,16 +57,18 @@ lock-told n base last h m z l k =
 
 pub heads-after-lock : HeadClaim
 heads-after-lock n base last h m z l k =
+    let g = kept-fold n base last h m z k in
     record {
       after-lock =
-          λ a.
+          λ x.
+          let a : anyHead (tells n base last h m) ≡ true = ap anyHead (tells-same n base last h m z k) ∙ x in
           by-test (ltb m 23)
           (λ t. absurd (never (sym a ∙ tells-none n base last h m (ltb-true m 23 t))))
           (λ t.
           by-test (readsAt n base last h (m - 23))
           (λ r.
           let w = reads-locked n base last h (m - 23) r in
-          ((m - 23) % n, lock-by n (sizeAt h) ((m - 23) % n) m z (rule-kept n base last h m z k .locked-only ((m - 23) % n) (w .0) (w .1))))
+          ((m - 23) % n, lock-by n (sizeAt h) ((m - 23) % n) m z (rule-kept n base last h m z g .locked-only ((m - 23) % n) (w .0) (w .1))))
           (λ r. absurd (never (sym a ∙ ap anyHead (tells-late n base last h m (ltb-false m 23 t)) ∙ told-none n base last h (m - 23) r))));
     }
 
@@ -81,16 +87,19 @@ pub readings-tell : ReadingClaim
 readings-tell n base last h k p j z b f l kept =
     let c = reading n base last h k p (suc j) in
     let d = reading n base last h k p 0 in
+    let g = kept-fold n base last h (c + 23) z kept in
     let less : d < c = omega (arith, z) in
-    let r = is-reading n base last h k p (suc j) z b f kept in
-    let r₀ = is-reading n base last h k p 0 z b f (λ i g. kept i (omega (arith, z))) in
+    let r = is-reading n base last h k p (suc j) z b f g in
+    let r₀ = is-reading n base last h k p 0 z b f (λ i y. g i (omega (arith, z))) in
     let e : c + 23 - 23 ≡ c = omega arith in
-    let told : tells n base last h (c + 23) ≡ toldAt n base last h c = rw e at (tells-late n base last h (c + 23) (omega arith)) in
-    record { head = λ x. rw told (reading-tells n base last h c r (begun-after n base last h d r₀ c less) x) }
+    let told : Stretch.tells n base last h (c + 23) ≡ toldAt n base last h c =
+    sym (tells-same n base last h (c + 23) z kept) ∙ (rw e at (tells-late n base last h (c + 23) (omega arith))) in
+    let lost : takenAt n base last h c .lost ≡ Stretch.markersLoseAt n base last h c = rw e at (ruled-at n base last h (c + 23) z kept .lost) in
+    record { head = λ x. rw told (reading-tells n base last h c r (begun-after n base last h d r₀ c less) (lost ∙ x)) }
 
 -- ---- at 9,296
 pub kept-before : KeptClaim
-kept-before base last h m b = kept-early 9296 base last h m (lit≤ tt) b
+kept-before base last h m b = kept-rule 9296 base last h m (lit≤ tt) (kept-early 9296 base last h m (lit≤ tt) b)
 
 pub no-lock : NoLockClaim
 no-lock base last h m b l =

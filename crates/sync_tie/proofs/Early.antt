@@ -14,8 +14,8 @@ use Rattle.sync_step.specs.Step.{losesOf}
 use Rattle.sync_tie.proofs.Heads.{taken-other}
 use Rattle.sync_tie.proofs.Kept.{reads-locked}
 use Rattle.sync_tie.specs.Pushes.{Push, sizeAt}
-use Rattle.sync_tie.specs.Story.{endsAt, lockAt, losesAt, periodLoses, readsAt, takenAt}
-use Rattle.sync_tie.specs.Tie.{Kept}
+use Rattle.sync_tie.proofs.Story.{endsAt, lockAt, losesAt, periodLoses, readsAt, takenAt}
+use Rattle.sync_tie.proofs.Story.{Kept}
 use lib.Dec.{lit≤}
 use mathlib.Core.Bool.{Bool, false, true}
 use mathlib.Core.List.{List}
@@ -23,7 +23,7 @@ use mathlib.Core.Path.{_∙_, _≡_, ap, refl, sym}
 use native.Mathlib.Nat.{div-lt-iff-lt-mul}
 use native.Mathlib.Omega.{arith}
 
-loses-true : (v : Verdict) → losesOf v ≡ true → v ≡ Loses
+pub loses-true : (v : Verdict) → losesOf v ≡ true → v ≡ Loses
 unfolding losesOf
 loses-true (Seeks cand count) e = absurd (never (sym e))
 loses-true (Locks offset) e = absurd (never (sym e))

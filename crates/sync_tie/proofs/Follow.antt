@@ -17,8 +17,9 @@ use Rattle.sync_tie.proofs.Step.{ends-place, inside-place, kept-step}
 use Rattle.sync_tie.proofs.Track.{Follows, counted-next, lastAt, late-is, late-step, levelAt, periodsAt, place-now, runAt, running}
 use Rattle.sync_tie.proofs.Window.{window-next, window-none}
 use Rattle.sync_tie.specs.Pushes.{Push, noPush, sizeAt}
-use Rattle.sync_tie.specs.Story.{endsAt, heardTo, lockAt, losesAt}
-use Rattle.sync_tie.specs.Tie.{Held, Kept, begun, pushOn, pushes, stepOn}
+use Rattle.sync_tie.proofs.Story.{endsAt, heardTo, lockAt, losesAt}
+use Rattle.sync_tie.specs.Tie.{Held, begun, pushOn, pushes, stepOn}
+use Rattle.sync_tie.proofs.Story.{Kept}
 use borrow.Author.Tests.{eqb-false, eqb-true, le-ltb, lt-ltb, ltb-false, ltb-true}
 use lib.Dec.{eqb, ltb}
 use lib.IntN.{ℤ}

@@ -20,7 +20,7 @@ use Rattle.sync_step.specs.declared.Events.{Events}
 use Rattle.sync_tie.proofs.Track.{heard-next}
 use Rattle.sync_tie.specs.Claims.{HeadAt, anyHead, isHead}
 use Rattle.sync_tie.specs.Pushes.{Push}
-use Rattle.sync_tie.specs.Story.{Heard, endsAt, heardTo, periodLoses, readingAt, readsAt, statsAt, takenAt, tells, toldAt}
+use Rattle.sync_tie.proofs.Story.{Heard, endsAt, heardTo, periodLoses, readingAt, readsAt, statsAt, takenAt, tells, toldAt}
 use borrow.Author.Tests.{le-ltb, lt-ltb, ltb-false, ltb-true}
 use lib.Dec.{ltb}
 use lib.Signed.{ltZ}
@@ -154,7 +154,7 @@ module _ (n base : ℕ) (last : Record) (h : List Push) where
       let e = heardTo n base last h c in
       if-no (readsAt n base last h c) (readOf n (e .stage) (e .course) (readingAt n base last h c)) (record { lost = false; stage = e .stage; course = e .course; first = NoHead; second = NoHead }) r
 
-  taken-reading : (c : ℕ) → readsAt n base last h c ≡ true → takenAt n base last h c ≡ readOf n (heardTo n base last h c .stage) (heardTo n base last h c .course) (readingAt n base last h c)
+  pub taken-reading : (c : ℕ) → readsAt n base last h c ≡ true → takenAt n base last h c ≡ readOf n (heardTo n base last h c .stage) (heardTo n base last h c .course) (readingAt n base last h c)
   unfolding takenAt
   taken-reading c r =
       let e = heardTo n base last h c in

@@ -14,8 +14,8 @@ use Rattle.sync_lock.specs.declared.Verdict.{Verdict}
 use Rattle.sync_step.specs.Step.{isLocked, losesOf, offsetOf}
 use Rattle.sync_tie.proofs.Places.{parts}
 use Rattle.sync_tie.specs.Pushes.{Push, sizeAt}
-use Rattle.sync_tie.specs.Story.{endsAt, lockAt, losesAt, periodLoses, readsAt, takenAt}
-use Rattle.sync_tie.specs.Tie.{Kept}
+use Rattle.sync_tie.proofs.Story.{endsAt, lockAt, losesAt, periodLoses, readsAt, takenAt}
+use Rattle.sync_tie.proofs.Story.{Kept}
 use borrow.Author.Tests.{eq-eqb, eqb-true}
 use mathlib.Core.Bool.{false, true}
 use mathlib.Core.List.{List}

@@ -18,7 +18,7 @@ use Rattle.sync_step.specs.declared.Stores.the-variants.{Zeros}
 use Rattle.sync_tie.proofs.Places.{next-end, next-in, place-less}
 use Rattle.sync_tie.proofs.Track.{afterAt, counted-next, heard-next, lastAt, levelAt, runAt, running}
 use Rattle.sync_tie.specs.Pushes.{Push, sizeAt}
-use Rattle.sync_tie.specs.Story.{endsAt, lockAt, losesAt, periodLoses, recordAt, statsAt, takenAt, toldAt}
+use Rattle.sync_tie.proofs.Story.{endsAt, lockAt, losesAt, periodLoses, recordAt, statsAt, takenAt, toldAt}
 use borrow.Author.Tests.{eqb-false, eqb-true}
 use mathlib.Core.Bool.{Bool, false, true}
 use mathlib.Core.List.{List}

@@ -20,7 +20,7 @@ use Rattle.sync_step.specs.declared.Run.{Run}
 use Rattle.sync_tie.proofs.Places.{place-less, whole}
 use Rattle.sync_tie.proofs.Window.{window-at, window-next, windowTo}
 use Rattle.sync_tie.specs.Pushes.{Push, bothAt, flat, noPush, sizeAt}
-use Rattle.sync_tie.specs.Story.{Heard, endsAt, heardTo, lockAt, readingAt, readsAt, recordAt, takenAt}
+use Rattle.sync_tie.proofs.Story.{Heard, endsAt, heardTo, lockAt, readingAt, readsAt, recordAt, takenAt}
 use Rattle.sync_tie.specs.Tie.{Held, stepOn}
 use borrow.Author.Tests.{eqb-false, eqb-true, le-ltb}
 use lib.Dec.{eqb, ltb}

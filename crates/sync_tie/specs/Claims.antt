@@ -16,7 +16,7 @@ use Rattle.sync.specs.declared.SlotSync.{SlotSync}
 use Rattle.sync.specs.Sync.{startedSync}
 use Rattle.sync.specs.Answers.{pushAnswer, pushAcc, restartAnswer, restartAcc}
 use Rattle.sync_tie.specs.Pushes.{Push, noPush, sizeAt}
-use Rattle.sync_tie.specs.Story.{losesAt, takenAt, tells}
+use Rattle.sync_tie.specs.Stretch.{LostByMarkers, markersLoseAt, tells}
 use Rattle.sync_tie.specs.Tie.{Held, stepOn, pushOn, pushes, begun, Kept}
 
 -- ---- words about events
@@ -56,7 +56,7 @@ module _ (n base : ℕ) (last : Record) (h : List Push) where
 
   -- "from the second later reading on every reading gives a head", of that very window, or loses by markers
   pub record ReadingsTell (k p j : ℕ) : Type 0 where
-    pub head : takenAt n base last h (reading k p (suc j)) .lost ≡ false →
+    pub head : markersLoseAt n base last h (reading k p (suc j)) ≡ false →
         HeadAt (base + reading k p (suc j)) (tells n base last h (reading k p (suc j) + 23) .first)
         ⊎ HeadAt (base + reading k p (suc j)) (tells n base last h (reading k p (suc j) + 23) .second)
 
@@ -71,6 +71,14 @@ HeadClaim = (n base : ℕ) (last : Record) (h : List Push) (m : ℕ) → 0 < n �
 abbrev pub ReadingClaim : Type 0
 ReadingClaim = (n base : ℕ) (last : Record) (h : List Push) (k p j : ℕ) → 0 < n → p < n → LockIn n (sizeAt h) p k →
     reading n base last h k p (suc j) + 23 < length h → Kept n base last h (reading n base last h k p (suc j) + 23) → ReadingsTell n base last h k p j
+
+-- the loss by markers, as a test of a position, is the loss by markers
+pub record MarkersAre (n base : ℕ) (last : Record) (h : List Push) (c : ℕ) : Type 0 where
+  pub loses : LostByMarkers n base last h c → markersLoseAt n base last h c ≡ true
+  pub loses-only : markersLoseAt n base last h c ≡ true → LostByMarkers n base last h c
+
+abbrev pub MarkersClaim : Type 0
+MarkersClaim = (n base : ℕ) (last : Record) (h : List Push) (c : ℕ) → 0 < n → MarkersAre n base last h c
 
 -- under the premise at 9,296: locked after symbol 37,207 and not before, at that place; no loss by periods while it lasts
 pub record Relocks (base place : ℕ) (last : Record) (h : List Push) : Type 0 where

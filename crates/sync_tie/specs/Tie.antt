@@ -1,5 +1,5 @@
--- THE TIE: for every list of pushes from a started sync, as long as none before has lost, the step's lock, figures, heads, periods and losses are
--- exactly what happened. After a loss the sync is a started one, so the same holds from the restart position on.
+-- THE TIE: for every list of pushes from a started sync, as long as none before has lost, the step's heads, periods, losses and records are exactly
+-- what happened. After a loss the sync is a started one, so the same holds from the restart position on.
 use Prim.Native.Nat.{ℕ, zero, suc, _+_, _-_, _*_, _%_, _/_, _≤_, _<_}
 use mathlib.Core.Bool.{true, false}
 use mathlib.Core.List.{List}
@@ -11,7 +11,7 @@ use Rattle.sync_step.specs.Step.{placeOf}
 use Rattle.sync.specs.declared.SlotSync.{SlotSync}
 use Rattle.sync.specs.Sync.{windowAfter, startedSync, storedOf, keptWindow, symbolOf}
 use Rattle.sync_tie.specs.Pushes.{Push, noPush}
-use Rattle.sync_tie.specs.Story.{lockAt, heardTo, losesAt, tells, recordAt}
+use Rattle.sync_tie.specs.Stretch.{losesAt, tells, recordBefore, recordAt}
 
 -- a sync with its accumulators
 pub record Held : Type 0 where
@@ -45,11 +45,9 @@ Kept n base last h m = (c : ℕ) → c + 23 < m → losesAt n base last h c ≡ 
 
 -- push m of h, after m pushes that did not lose, in a stretch that began at base with this record
 pub record Tells (n base : ℕ) (last : Record) (h : List Push) (m : ℕ) : Type 0 where
-  -- the lock after m symbols is that of the whole periods so far, and the heads' course is the fold over the readings
+  -- m symbols have been taken, and the frame record is that of the readings so far
   pub time : pushes n (begun n base last) h m .sync .run .t ≡ m
-  pub lock : pushes n (begun n base last) h m .sync .run .lock ≡ lockAt n base last h (m - 23)
-  pub stage : pushes n (begun n base last) h m .sync .run .stage ≡ heardTo n base last h (m - 23) .stage
-  pub course : pushes n (begun n base last) h m .sync .run .course ≡ heardTo n base last h (m - 23) .course
+  pub record-is : pushes n (begun n base last) h m .sync .run .course .last ≡ recordBefore n base last h (m - 23)
   -- the events of push m are what happened, nothing more and nothing less
   pub events : stepOn n (pushes n (begun n base last) h m) (getD h m noPush) .events ≡ tells n base last h m
   -- a loss leaves a started sync at the next symbol's position, with the record so far, and zeroes the accumulators

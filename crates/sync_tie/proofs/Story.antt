@@ -1,8 +1,9 @@
--- What a stretch of pushes comes to: a stretch begins at a position, with the frame record kept from before, and its accumulators at zero. n is the
--- period. Nothing here is a state of the sync: lock, readings and figures are functions of the pushes.
-use Prim.Native.Nat.{ℕ, zero, suc, _+_, _-_, _/_, _%_}
+-- A stretch of pushes folded by the step's own rules: what stands between the step and the rules of specs/Stretch. Follow proves that the sync tells it,
+-- Ruled that it is what Stretch says. Assumes nothing.
+use Prim.Native.Nat.{ℕ, zero, suc, _+_, _-_, _/_, _%_, _≤_, _<_}
 use mathlib.Core.Bool.{Bool, true, false}
 use mathlib.Core.List.{List}
+use mathlib.Core.Path.{_≡_}
 use lib.Dec.{eqb, ltb}
 use lib.IntN.{pos}
 use Rattle.laws.specs.Choice.{if_then_else_}
@@ -108,3 +109,7 @@ module _ (n base : ℕ) (last : Record) (h : List Push) where
   -- the frame record when position c has lost
   unfoldable pub recordAt : ℕ → Record
   recordAt c = takenAt c .course .last
+
+-- no position of the first m pushes has lost
+abbrev pub Kept : ℕ → ℕ → Record → List Push → ℕ → Type 0
+Kept n base last h m = (c : ℕ) → c + 23 < m → losesAt n base last h c ≡ false
