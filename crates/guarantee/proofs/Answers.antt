@@ -19,6 +19,7 @@ use Rattle.sums.specs.declared.Sums.{Sums}
 use Rattle.sums.specs.Sums.{emptySums}
 use Rattle.sync_history.specs.History.{accAfter}
 use Rattle.sync_tie.proofs.Follow.{follows}
+use Rattle.sync_tie.proofs.Theorems.{kept-fold}
 use Rattle.sync_tie.proofs.Track.{periodsAt}
 use Rattle.sync_tie.specs.Pushes.{sizeAt}
 use Rattle.sync_tie.specs.Tie.{Held}
@@ -84,7 +85,7 @@ taken-is base i c = let e : c / 9296 + 1 ≡ suc (c / 9296) = omega arith in rw 
 accumulated : (s : System) (h : History) → Tied s h → Accumulated (h .pushes) (s .acc)
 unfolding periodsAt
 accumulated s h t =
-    let f = follows 9296 (h .base) (h .last) (h .pushes) (length (h .pushes)) (lit≤ tt) (omega arith) (t .kept) in
+    let f = follows 9296 (h .base) (h .last) (h .pushes) (length (h .pushes)) (lit≤ tt) (omega arith) (kept-fold 9296 (h .base) (h .last) (h .pushes) (length (h .pushes)) (lit≤ tt) (t .kept)) in
     let e = ap (λ (y : Held). y .acc) (t .held) in
     let n = length (h .pushes) - 23 in
     record {

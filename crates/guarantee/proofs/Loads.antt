@@ -24,7 +24,7 @@ use Rattle.receiver_range.proofs.InRange.{in-range}
 use Rattle.receiver_range.proofs.Starts.{end-sums-coherent, loaded-points-fit, open-sums-coherent, points-coherent, restart-coherent, taps-coherent}
 use Rattle.receiver_range.specs.Coherent.{CoherentReceiver, PointsFit}
 use Rattle.sums.specs.Sums.{emptySums}
-use Rattle.sync_tie.proofs.Follow.{follows}
+use Rattle.sync_tie.proofs.Theorems.{record-now}
 use Rattle.sync_tie.specs.Tie.{Held}
 use Rattle.sync_step.specs.declared.Run.{Run}
 use borrow.Author.Tests.{eq-eqb, eqb-true}
@@ -232,8 +232,7 @@ module _ (s : System) (h : History) (t : Tied s h) where
   pub kept-now : keptOf r₀ ≡ keptIn h
   unfolding keptOf keptIn
   kept-now =
-      let f = follows 9296 (h .base) (h .last) (h .pushes) (length (h .pushes)) (lit≤ tt) (omega arith) (t .kept) in
-      let last = ap (λ (y : Held). y .sync .run .course .last) (t .held) ∙ ap (λ (u : Run). u .course .last) (f .run) in
+      let last = ap (λ (y : Held). y .sync .run .course .last) (t .held) ∙ record-now 9296 (h .base) (h .last) (h .pushes) (length (h .pushes)) (lit≤ tt) (omega arith) (t .kept) in
       kept-eq (t .nco) (t .taps) (t .from) (t .points) last
 
   module _ (at : ℕ) where

@@ -9,7 +9,7 @@ use Rattle.guarantee.specs.Calls.{symbol, points, taps, opens, ends, res
 use Rattle.guarantee.specs.Demand.{Among, IsPeriod, LockTold, Relocks, stretchWith}
 use Rattle.guarantee.specs.Demand.{in-first, in-second, in-third}
 use Rattle.guarantee.specs.History.{History, accepts, beginsWith, endsStretch, eventsIn, eventsWith, goesOn, happens, keptIn, keptOver, losesBy, losesWith, nextIn, pushOf, refusalIn, takes, withSymbol}
-use Rattle.laws.proofs.Tests.{and-both, by-test, if-both, never}
+use Rattle.laws.proofs.Tests.{and-both, by-test, if-both, neither, never}
 use Rattle.laws.specs.Choice.{if-no, if-yes, if_then_else_}
 use Rattle.sync_heads.specs.declared.Headed.{Headed}
 use Rattle.sync_heads.specs.declared.Headed.the-variants.{Nothing as NoHead, One as OneHead}
@@ -34,13 +34,15 @@ use Rattle.sync_tie.proofs.Step.{ends-place}
 use Rattle.sync_tie.specs.Claims.{HeadAt}
 use Rattle.sync_tie.specs.Claims as Sync
 use Rattle.sync_tie.specs.Pushes.{Push, sizeAt}
-use Rattle.sync_tie.specs.Story.{endsAt, lockAt, losesAt, periodLoses, statsAt, takenAt, tells, toldAt}
+use Rattle.sync_tie.proofs.Story.{endsAt, lockAt, losesAt, periodLoses, statsAt, takenAt, tells, toldAt}
+use Rattle.sync_tie.proofs.Theorems.{kept-fold, ruled-at, tells-same}
+use Rattle.sync_tie.specs.Stretch as rule
 use Rattle.sync_tie.specs.Tie.{Held, Kept, pushes}
 use borrow.Author.Tests.{ltb-false}
 use lib.Dec.{eqb, lit≤, ltb}
 use lib.IntN.{ℤ}
 use lib.ListN.{length}
-use mathlib.Core.Bool.{false, true}
+use mathlib.Core.Bool.{false, true, _&&_}
 use mathlib.Core.List.{List, []}
 use mathlib.Core.Logic.{_⊎_, inl, inr}
 use mathlib.Core.Path.{_∙_, _≡_, ap, refl, subst, sym}
@@ -186,7 +188,7 @@ module _ (base : ℕ) (last : Record) (h : List Push) where
 -- ---- the lock after a symbol that goes on
 lock-after : (s : System) (h : History) → Tied s h → 24 ≤ length (h .pushes) → lockOf s ≡ lockAt 9296 (h .base) (h .last) (h .pushes) (length (h .pushes) - 23)
 lock-after s h t l =
-    let f = follows 9296 (h .base) (h .last) (h .pushes) (length (h .pushes)) (lit≤ tt) (omega arith) (t .kept) in
+    let f = follows 9296 (h .base) (h .last) (h .pushes) (length (h .pushes)) (lit≤ tt) (omega arith) (kept-fold 9296 (h .base) (h .last) (h .pushes) (length (h .pushes)) (lit≤ tt) (t .kept)) in
     ap (λ (y : Held). y .sync .run .lock) (t .held) ∙ ap (λ (u : Run). u .lock) (f .run)
 
 no-period : (q : SyncStats) → Among (IsPeriod q) noEvents → ⊥
@@ -206,6 +208,10 @@ either : (at : ℕ) (es : Events) → HeadAt at (es .first) ⊎ HeadAt at (es .s
 either at es (inl p) = in-first p
 either at es (inr p) = in-second p
 
+markers-kept : (base : ℕ) (last : Record) (g : List Push) (c : ℕ) → rule.losesAt 9296 base last g c ≡ false → rule.markersLoseAt 9296 base last g c ≡ false
+unfolding rule.losesAt
+markers-kept base last g c e = neither (rule.markersLoseAt 9296 base last g c) (rule.endsAt 9296 base last g c && rule.eighthEnds 9296 base last g c) e .0
+
 module _ (s : System) (h : History) (t : Tied s h) where
   -- the history with the symbol has its lock
   grown-lock : (x : Input) → losesWith h x ≡ false → (s' : System) → Tied s' (takes h x) → 23 ≤ length (h .pushes) →
@@ -222,17 +228,24 @@ module _ (s : System) (h : History) (t : Tied s h) where
       long-with : (x : Input) → length (withSymbol h x) ≡ suc (length (h .pushes))
       long-with x = unfold withSymbol in grown-length (h .base) (h .last) (h .pushes) (pushOf h x)
 
+  kept-grown : (x : Input) → Kept 9296 (h .base) (h .last) (withSymbol h x) (length (h .pushes))
+  unfolding withSymbol
+  kept-grown x = kept-before (h .base) (h .last) (h .pushes) (pushOf h x) (t .kept)
+
   period-with : (x : Input) (soft : List ℤ) → losesWith h x ≡ false → (s' : System) → Tied s' (takes h x) → (q : SyncStats) → Among (IsPeriod q) (eventsWith h x) →
       (q .locked ≡ isLocked (lockOf s')) × (q .offset ≡ offsetOf (lockOf s'))
   unfolding eventsWith
-  period-with x soft e s' t' q w =
+  period-with x soft e s' t' q w' =
       let m = length (h .pushes) in
       let g = withSymbol h x in
+      let kept = kept-grown x in
+      let w = subst (Among (IsPeriod q)) (sym (tells-same 9296 (h .base) (h .last) g m (lit≤ tt) kept)) w' in
       by-test (ltb m 23)
       (λ u. absurd (no-period q (subst (Among (IsPeriod q)) (tells-early (h .base) (h .last) g m u) w)))
       (λ u.
       let l = ltb-false m 23 u in
-      let v = period-told (h .base) (h .last) g (m - 23) q (not-lost s h t x soft e l) (subst (Among (IsPeriod q)) (tells-late 9296 (h .base) (h .last) g m l) w) in
+      let stays = ruled-at 9296 (h .base) (h .last) g m (lit≤ tt) kept .loses ∙ not-lost s h t x soft e l in
+      let v = period-told (h .base) (h .last) g (m - 23) q stays (subst (Among (IsPeriod q)) (tells-late 9296 (h .base) (h .last) g m l) w) in
       let k = stats-lock (h .base) (h .last) g (m - 23) (v .0) in
       let n = grown-lock x e s' t' l in
       (ap (λ (y : SyncStats). y .locked) (sym (v .1)) ∙ k .0 ∙ ap isLocked (sym n), ap (λ (y : SyncStats). y .offset) (sym (v .1)) ∙ k .1 ∙ ap offsetOf (sym n)))
@@ -315,9 +328,9 @@ module _ (s : System) (h : History) (t : Tied s h) where
       let k = lock-in place g (w .falls (omega (arith, long, n))) in
       let kept : Kept 9296 b last g (r + 23) = subst (Kept 9296 b last g) em (unfold withSymbol in kept-before b last (h .pushes) (pushOf h x) (t .kept)) in
       let tell = readings-tell 9296 b last g 3 place j (lit≤ tt) (pr .within) k (omega (arith, long, em)) kept in
-      let stays : takenAt 9296 b last g r .lost ≡ false = taken-kept b last g r (subst (λ (i : ℕ). losesAt 9296 b last g i ≡ false) back (not-lost s h t x soft e l)) in
-      subst (λ (i : ℕ). Among (HeadAt (b + i)) (tells 9296 b last g m)) er
-      (subst (λ (i : ℕ). Among (HeadAt (b + r)) (tells 9296 b last g i)) (sym em) (either (b + r) (tells 9296 b last g (r + 23)) (tell .head stays)))
+      let stays : rule.markersLoseAt 9296 b last g r ≡ false = markers-kept b last g r (subst (λ (i : ℕ). rule.losesAt 9296 b last g i ≡ false) back (not-lost s h t x soft e l)) in
+      subst (λ (i : ℕ). Among (HeadAt (b + i)) (rule.tells 9296 b last g m)) er
+      (subst (λ (i : ℕ). Among (HeadAt (b + r)) (rule.tells 9296 b last g i)) (sym em) (either (b + r) (rule.tells 9296 b last g (r + 23)) (tell .head stays)))
 
   -- an accepted symbol is the one more
   relock-heads : (c : Call) (place P Q : ℕ) → Premise 9296 place P Q (sizeAt (stretchWith h c)) (length (stretchWith h c) - 23) → losesBy h c ≡ false →

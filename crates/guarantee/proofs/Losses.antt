@@ -1,7 +1,7 @@
 -- The losses of a call. Assumes nothing.
 use Prim.Native.Nat.{ℕ, _+_, _-_}
 use Rattle.guarantee.proofs.Alike.{Same, same-all}
-use Rattle.guarantee.proofs.Causes.{causes, eighth-lost}
+use Rattle.guarantee.proofs.Causes.{causes, eighth-lost, markers-lost}
 use Rattle.guarantee.proofs.Follow.{after-is, fits, own-wrong, wrong-any}
 use Rattle.guarantee.proofs.Lists.{call-steps}
 use Rattle.guarantee.proofs.Lost.{Tells, lost-told, tells-loses}
@@ -26,8 +26,8 @@ use Rattle.sync_step.specs.declared.Event.{Event}
 use Rattle.sync_step.specs.declared.Event.the-variants.{Nothing, Head, Period, Lost}
 use Rattle.sync_step.specs.declared.Events.{Events}
 use Rattle.sync_step.specs.Events.{noEvents}
-use Rattle.sync_tie.proofs.Heads.{tells-late}
-use Rattle.sync_tie.specs.Story.{losesAt, tells, toldAt}
+use Rattle.sync_tie.proofs.Says.{tells-late}
+use Rattle.sync_tie.specs.Stretch.{losesAt, tells, toldAt}
 use borrow.Author.Tests.{eqb-true}
 use lib.Dec.{eqb, leb}
 use lib.IntN.{ℤ}
@@ -174,6 +174,7 @@ module _ (s : System) (h : History) (t : Tied s h) where
         told = λ e. subst (Among (LostAt (nextIn h + 1))) (sym k) (lost-told-by c e);
         only = λ at w. lost-only-by c at (subst (Among (LostAt at)) k w);
         kinds = causes s h t c;
+        markers = markers-lost s h t c;
         eighth = eighth-lost s h t c;
         like-new = like-new c f rest;
       }

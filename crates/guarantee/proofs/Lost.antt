@@ -2,55 +2,23 @@
 use Prim.Native.Nat.{ℕ, _+_, _-_}
 use Rattle.laws.proofs.Tests.{by-test, if-both, never}
 use Rattle.laws.specs.Choice.{if_then_else_}
-use Rattle.sync_corr.specs.declared.Corr.{Corr}
-use Rattle.sync_heads.specs.Frames.{fsyncCourse}
-use Rattle.sync_heads.specs.Heads.{bothHeads, firstOf, fsyncOf, fsyncTaken, headOf, isFsync, knownOf, readOf, ssyncOf, ssyncTaken}
-use Rattle.sync_heads.specs.Words.{marginOf, saidOf}
-use Rattle.sync_heads.specs.declared.Course.{Course}
 use Rattle.sync_heads.specs.declared.Headed.{Headed}
 use Rattle.sync_heads.specs.declared.Headed.the-variants.{Nothing as NoHead, One as OneHead}
-use Rattle.sync_heads.specs.declared.Reading.{Reading}
 use Rattle.sync_heads.specs.declared.Record.{Record}
-use Rattle.sync_heads.specs.declared.Stage.{Stage}
-use Rattle.sync_heads.specs.declared.Stage.the-variants.{Before, First, Known}
-use Rattle.sync_heads.specs.declared.Taken.{Taken}
-use Rattle.sync_heads.specs.declared.Told.{Told}
-use Rattle.sync_step.specs.Events.{eventOf, headsOf, isNothing, noEvents, thenOf}
-use Rattle.sync_step.specs.Step.{startedOf, statsOf}
+use Rattle.sync_step.specs.Events.{eventOf, isNothing, noEvents, thenOf}
 use Rattle.sync_step.specs.declared.Event.{Event}
 use Rattle.sync_step.specs.declared.Event.the-variants.{Nothing, Head, Period, Lost}
 use Rattle.sync_step.specs.declared.Events.{Events}
 use Rattle.sync_step.specs.declared.SyncStats.{SyncStats}
 use Rattle.sync_tie.specs.Pushes.{Push}
-use Rattle.sync_tie.specs.Story.{endsAt, heardTo, losesAt, periodLoses, readingAt, readsAt, statsAt, takenAt, tells, toldAt}
+use Rattle.sync_tie.proofs.Says.{heads-two, lost-alone}
+use Rattle.sync_tie.specs.Stretch.{eighthEnds, endsAt, headsAt, losesAt, markersLoseAt, statsAt, tells, toldAt, zeros}
 use Rattle.receiver.specs.Heads.{isLost, losesIn}
 use Rattle.guarantee.specs.Demand.{LostAt, Among, in-first, in-second, in-third}
 use lib.Dec.{ltb}
-use lib.Signed.{ltZ}
 use mathlib.Core.Bool.{false, true}
 use mathlib.Core.List.{List}
-use mathlib.Core.Path.{_≡_, refl, sym}
-
--- ---- a losing reading tells no second head
-one-head : (n : ℕ) (c : Course) (r : Reading) (last : Corr) → fsyncOf n c r last .lost ≡ true → fsyncOf n c r last .head ≡ NoHead
-unfolding fsyncOf
-one-head n c r last =
-    let w = saidOf false (r .both) last in
-    let m = fsyncCourse n (isFsync (w .word)) c (r .at) in
-    let a : Told = record { lost = true; course = m .course; head = NoHead } in
-    let b : Told = record { lost = false; course = m .course; head = OneHead (headOf w (r .at) (m .course .slot)) } in
-    if-both (λ (t : Told). t .lost ≡ true → t .head ≡ NoHead) (m .lost) a b (λ e. refl) (λ e. absurd (never (sym e)))
-
-abbrev Alone : Taken → Type 0
-Alone k = k .lost ≡ true → k .second ≡ NoHead
-
-pub lost-alone : (n : ℕ) (s : Stage) (c : Course) (r : Reading) → Alone (readOf n s c r)
-unfolding readOf firstOf knownOf bothHeads ssyncTaken fsyncTaken
-lost-alone n Before c r = λ e. refl
-lost-alone n (First z) c r =
-    if-both Alone (ltZ (marginOf (z .both)) (marginOf (r .both))) (ssyncTaken true c r) (bothHeads n z c r) (λ e. refl) (λ e. one-head n (ssyncOf c z .course) r (z .both .s) e)
-lost-alone n (Known p) c r =
-    if-both Alone (p .due) (ssyncTaken (p .odd) c r) (fsyncTaken n (p .odd) (p .last) c r) (λ e. refl) (λ e. refl)
+use mathlib.Core.Path.{_≡_, refl, subst, sym}
 
 -- ---- events that hold no loss, and one more
 pub record Quiet (es : Events) : Type 0 where
@@ -63,9 +31,8 @@ unfolding isLost eventOf
 head-quiet NoHead = refl
 head-quiet (OneHead g) = refl
 
-pub heads-quiet : (k : Taken) → Quiet (headsOf k)
-unfolding headsOf
-heads-quiet k = record { first = head-quiet (k .first); second = head-quiet (k .second); third = refl }
+heads-quiet : (a b : Headed) → Quiet (record { first = eventOf a; second = eventOf b; third = Nothing })
+heads-quiet a b = record { first = head-quiet a; second = head-quiet b; third = refl }
 
 quiet-none : (es : Events) → Quiet es → losesIn es ≡ false
 unfolding losesIn isLost
@@ -145,41 +112,31 @@ unfolding isLost
 not-lost p = refl
 
 module _ (n base : ℕ) (last : Record) (h : List Push) where
-  taken-alone : (c : ℕ) → Alone (takenAt n base last h c)
-  unfolding takenAt
-  taken-alone c =
-      let e = heardTo n base last h c in
-      if-both Alone (readsAt n base last h c) (readOf n (e .stage) (e .course) (readingAt n base last h c))
-      (record { lost = false; stage = e .stage; course = e .course; first = NoHead; second = NoHead })
-      (lost-alone n (e .stage) (e .course) (readingAt n base last h c))
-      (λ x. refl)
-
-  alone-none : (c : ℕ) → takenAt n base last h c .lost ≡ true → headsOf (takenAt n base last h c) .second ≡ Nothing
-  unfolding headsOf eventOf
-  alone-none c t = rw (taken-alone c t)
+  quiet-at-heads : (c : ℕ) → Quiet (headsAt n base last h c)
+  quiet-at-heads c = let w = heads-two n base last h c in subst Quiet (sym (w .2)) (heads-quiet (w .0) (w .1))
 
   abbrev At : ℕ → Events → Type 0
   At c es = (losesIn es ≡ losesAt n base last h c) × (losesAt n base last h c ≡ true → Tells (base + c + 24) es)
 
   -- ---- what the symbol that completes position c tells of a loss
   pub lost-told : (c : ℕ) → At c (toldAt n base last h c)
-  unfolding toldAt losesAt if_then_else_ takenAt
+  unfolding toldAt losesAt if_then_else_
   lost-told c =
-      let k = takenAt n base last h c in
-      let q = heads-quiet k in
+      let hs = headsAt n base last h c in
+      let q = quiet-at-heads c in
       let next = base + c + 24 in
-      by-test (k .lost)
+      by-test (markersLoseAt n base last h c)
       (λ t.
       by-test (endsAt n base last h c)
-      (λ e. rw (t, e) (let w = period-tells next (headsOf k) (statsOf (startedOf next (k .course .last))) q (alone-none c t) in (w .loses, λ x. w)))
-      (λ e. rw (t, e) (let w = then-tells next (headsOf k) q in (w .loses, λ x. w))))
+      (λ e. rw (t, e) (let w = period-tells next hs zeros q (lost-alone n base last h c t) in (w .loses, λ x. w)))
+      (λ e. rw (t, e) (let w = then-tells next hs q in (w .loses, λ x. w))))
       (λ t.
       by-test (endsAt n base last h c)
       (λ e.
-      by-test (periodLoses n base last h c)
-      (λ p. rw (t, e, p) (let w = then-tells next (headsOf k) q in (w .loses, λ x. w)))
-      (λ p. rw (t, e, p) (then-quiet (headsOf k) (Period (statsAt n base last h c)) (not-lost (statsAt n base last h c)) q, λ x. absurd (never (sym x)))))
-      (λ e. rw (t, e) (quiet-none (headsOf k) q, λ x. absurd (never (sym x)))))
+      by-test (eighthEnds n base last h c)
+      (λ p. rw (t, e, p) (let w = then-tells next hs q in (w .loses, λ x. w)))
+      (λ p. rw (t, e, p) (then-quiet hs (Period (statsAt n base last h c)) (not-lost (statsAt n base last h c)) q, λ x. absurd (never (sym x)))))
+      (λ e. rw (t, e) (quiet-none hs q, λ x. absurd (never (sym x)))))
 
   -- .. and the symbol after m others, the first 23 of which complete no position
   early-none : losesIn noEvents ≡ false

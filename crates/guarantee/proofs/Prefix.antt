@@ -11,7 +11,7 @@ use Rattle.sync_corr.specs.Correlate.{bothOf, sizeOf}
 use Rattle.sync_corr.specs.declared.Both.{Both}
 use Rattle.sync_history.specs.History.{Premise}
 use Rattle.sync_tie.specs.Pushes.{Push, bothAt, flat, noPush, sizeAt}
-use Rattle.sync_tie.specs.Story.{losesAt, tells}
+use Rattle.sync_tie.specs.Stretch.{losesAt, tells}
 use Rattle.sync_tie.specs.Tie.{Held, Kept, begun, pushOn, pushes, stepOn}
 use Rattle.receiver.specs.Heads.{losesIn}
 use Rattle.guarantee.specs.History.{toldTo}

@@ -4,9 +4,10 @@ use Rattle.laws.proofs.Tests.{by-test}
 use Rattle.sync_heads.specs.declared.Record.{Record}
 use Rattle.sync_step.specs.declared.Run.{Run}
 use Rattle.sync_tie.proofs.Follow.{follows}
-use Rattle.sync_tie.proofs.Theorems.{tie}
+use Rattle.sync_tie.proofs.Theorems.{kept-fold, tie}
 use Rattle.sync_tie.specs.Pushes.{Push, noPush}
-use Rattle.sync_tie.specs.Story.{lockAt, losesAt, recordAt, tells}
+use Rattle.sync_tie.proofs.Story.{lockAt}
+use Rattle.sync_tie.specs.Stretch.{losesAt, recordAt, tells}
 use Rattle.sync_tie.specs.Tie.{Held, Kept, begun, pushOn, pushes, stepOn}
 use Rattle.guarantee.proofs.Prefix.{kept-prefix, pushes-prefix}
 use borrow.Author.Tests.{ltb-false, ltb-true}
@@ -48,7 +49,9 @@ module _ (base : ℕ) (last : Record) (h : List Push) (p : Push) where
 
     -- the lock, as the grown stretch has it
     pub lock-now : before .sync .run .lock ≡ lockAt 9296 base last grown (count - 23)
-    lock-now = ap (λ (y : Held). y .sync .run .lock) (sym same-before) ∙ tie 9296 base last grown count (lit≤ tt) (omega (arith, grown-length)) kept-before .lock
+    lock-now =
+        let f = follows 9296 base last grown count (lit≤ tt) (omega (arith, grown-length)) (kept-fold 9296 base last grown count (lit≤ tt) kept-before) in
+        ap (λ (y : Held). y .sync .run .lock) (sym same-before) ∙ ap (λ (u : Run). u .lock) (f .run)
 
     pub step-next : pushOn 9296 before p ≡ pushes 9296 (begun 9296 base last) grown (suc count)
     unfolding pushes
@@ -68,5 +71,5 @@ module _ (base : ℕ) (last : Record) (h : List Push) (p : Push) where
   -- ---- where the sync stands
   pub where-now : Kept 9296 base last h count → (before .sync .run .base ≡ base) × (before .sync .run .t ≡ count) × (length (before .acc) ≡ 9296)
   where-now k =
-      let f = follows 9296 base last h count (lit≤ tt) (omega arith) k in
+      let f = follows 9296 base last h count (lit≤ tt) (omega arith) (kept-fold 9296 base last h count (lit≤ tt) k) in
       (ap (λ (u : Run). u .base) (f .run), ap (λ (u : Run). u .t) (f .run), f .long)

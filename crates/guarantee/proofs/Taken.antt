@@ -28,7 +28,7 @@ use Rattle.sync_step.specs.Step.{startedOf}
 use Rattle.sync_heads.specs.declared.Record.{Record}
 use Rattle.sync_step.specs.declared.Events.{Events}
 use Rattle.sync_tie.specs.Claims.{anyHead}
-use Rattle.sync_tie.specs.Story.{recordAt}
+use Rattle.sync_tie.specs.Stretch.{recordAt}
 use Rattle.sync_tie.specs.Tie.{Held, Kept, begun, pushes}
 use lib.IntN.{ℤ}
 use lib.ListN.{getD, getD-replicate, length, length-replicate, replicate}

@@ -3,7 +3,7 @@ use Prim.Native.Nat.{ℕ, _-_, _%_, _^_, _≤_, _<_}
 use Rattle.guarantee.proofs.Heads.{nco-heard}
 use Rattle.guarantee.proofs.Lost.{tells-loses}
 use Rattle.guarantee.proofs.Slots.{Slots}
-use Rattle.guarantee.proofs.Stretch.{lock-now, step-events, where-now}
+use Rattle.guarantee.proofs.Stretch.{kept-before, lock-now, step-events, where-now}
 use Rattle.guarantee.specs.Calls.{System}
 use Rattle.guarantee.specs.History.{History, Training, carrierWith, eventsWith, heardEvents, losesWith, nextIn, pushOf, toldTo, withSymbol}
 use Rattle.guarantee.specs.History.{none, since}
@@ -22,11 +22,13 @@ use Rattle.laws.proofs.Tests.{and-both, by-test, never}
 use Rattle.laws.specs.Choice.{if_then_else_}
 use Rattle.sync_step.specs.declared.Events.{Events}
 use Rattle.sync_tie.specs.Claims.{anyHead}
-use Rattle.sync_tie.specs.Story.{losesAt, readsAt, lockAt}
+use Rattle.sync_tie.proofs.Story as fold
 use Rattle.sync_tie.proofs.Heads.{tells-late, tells-none, told-none}
+use Rattle.sync_tie.proofs.Theorems.{tells-same}
+use Rattle.sync_tie.specs.Stretch.{losesAt}
 use Rattle.sync_lock.specs.Rule.{lockedAt}
 use borrow.Author.Tests.{le-leb, leb-true, lt-leb, ltb-false, ltb-true}
-use lib.Dec.{leb, ltb}
+use lib.Dec.{leb, lit≤, ltb}
 use lib.ListN.{getD, length}
 use mathlib.Core.Bool.{Bool, false, true, _&&_}
 use mathlib.Core.List.{List}
@@ -133,18 +135,23 @@ module _ (s : System) (h : History) (t : Tied s h) (x : Input) (soft : List ℤ)
   nco-is = nco-heard 9296 _ (synced 9296 r x l .events) ∙ ap₂ (λ (c : Nco) (es : Events). heardEvents (advancedNco c) es) (t .nco) events-are
 
   -- ---- a head is told at the locked place alone
-  lock-grown : pushes 9296 (begun 9296 (h .base) (h .last)) (h .pushes) m .sync .run .lock ≡ lockAt 9296 (h .base) (h .last) (withSymbol h x) (m - 23)
+  lock-grown : pushes 9296 (begun 9296 (h .base) (h .last)) (h .pushes) m .sync .run .lock ≡ fold.lockAt 9296 (h .base) (h .last) (withSymbol h x) (m - 23)
   unfolding withSymbol
   lock-grown = lock-now (h .base) (h .last) (h .pushes) (pushOf h x) (t .kept)
 
-  late-reads : anyHead (eventsWith h x) ≡ true → lockedAt (lockAt 9296 (h .base) (h .last) (withSymbol h x) (m - 23)) ((m - 23) % 9296) ≡ true
-  unfolding eventsWith readsAt
-  late-reads a =
+  kept-grown : Kept 9296 (h .base) (h .last) (withSymbol h x) m
+  unfolding withSymbol
+  kept-grown = kept-before (h .base) (h .last) (h .pushes) (pushOf h x) (t .kept)
+
+  late-reads : anyHead (eventsWith h x) ≡ true → lockedAt (fold.lockAt 9296 (h .base) (h .last) (withSymbol h x) (m - 23)) ((m - 23) % 9296) ≡ true
+  unfolding eventsWith fold.readsAt
+  late-reads e =
       let g = withSymbol h x in
+      let a = ap anyHead (tells-same 9296 (h .base) (h .last) g m (lit≤ tt) kept-grown) ∙ e in
       by-test (ltb m 23)
       (λ u. absurd (never (sym a ∙ tells-none 9296 (h .base) (h .last) g m (ltb-true m 23 u))))
       (λ u.
-      by-test (readsAt 9296 (h .base) (h .last) g (m - 23)) (λ v. v)
+      by-test (fold.readsAt 9296 (h .base) (h .last) g (m - 23)) (λ v. v)
       (λ v. absurd (never (sym a ∙ ap anyHead (tells-late 9296 (h .base) (h .last) g m (ltb-false m 23 u)) ∙ told-none 9296 (h .base) (h .last) g (m - 23) v))))
 
   pub head-locked : anyHead (synced 9296 r x l .events) ≡ true → lockedAt (r .front .sync .run .lock) ((r .front .sync .run .t - 23) % 9296) ≡ true
@@ -153,6 +160,6 @@ module _ (s : System) (h : History) (t : Tied s h) (x : Input) (soft : List ℤ)
       let g = withSymbol h x in
       let w = where-now b (h .last) (h .pushes) noPush (t .kept) in
       let time : r .front .sync .run .t ≡ m = ap (λ (y : Held). y .sync .run .t) (t .held) ∙ w .1 in
-      let lock : r .front .sync .run .lock ≡ lockAt 9296 b (h .last) g (m - 23) = ap (λ (y : Held). y .sync .run .lock) (t .held) ∙ lock-grown in
+      let lock : r .front .sync .run .lock ≡ fold.lockAt 9296 b (h .last) g (m - 23) = ap (λ (y : Held). y .sync .run .lock) (t .held) ∙ lock-grown in
       let told = sym (ap anyHead events-are) ∙ a in
       rw (lock, time) (late-reads told)

@@ -19,7 +19,7 @@ use Rattle.sync_step.specs.Step.{isLocked, offsetOf}
 use Rattle.sync_history.specs.History.{accAfter, Eighth, LockOn, LockBy, LossBy, Premise, endOf}
 use Rattle.sync_tie.specs.Pushes.{Push, sizeAt}
 use Rattle.sync_tie.specs.Claims.{anyHead, HeadAt}
-use Rattle.sync_tie.specs.Story.{takenAt}
+use Rattle.sync_tie.specs.Stretch.{LostByMarkers}
 use Rattle.sums.specs.Sums.{emptySums}
 use Rattle.demap.specs.Answers.{demapRefusal, demapBuffer}
 use Rattle.receiver.specs.declared.Kept.{Kept}
@@ -144,8 +144,10 @@ module _ (h : History) (s : System) (c : Call) (t : Told) (rest : List Call) whe
   pub record Losses : Type 0 where
     pub told : losesBy h c ≡ true → Among (LostAt (nextIn h + 1)) (t .events)
     pub only : (at : ℕ) → Among (LostAt at) (t .events) → (losesBy h c ≡ true) × (at ≡ nextIn h + 1)
-    -- a loss is by "two missed markers in a row", or by "eight others in a row"; and the symbol that ends an eighth other period in a row loses
-    pub kinds : losesBy h c ≡ true → (takenAt 9296 (h .base) (h .last) ps (m - 23) .lost ≡ true) ⊎ ((p : ℕ) × Eighth 9296 (sizeAt ps) p ((m - 23) / 9296))
+    -- a loss is by "two missed markers in a row": the symbol completes the reading of the second; or by "eight others in a row": it ends the eighth
+    -- period. And each of the two loses
+    pub kinds : losesBy h c ≡ true → LostByMarkers 9296 ps (m - 23) ⊎ ((p : ℕ) × (k : ℕ) × Eighth 9296 (sizeAt ps) p k × (length ps ≡ endOf 9296 k))
+    pub markers : length ps ≡ suc m → LostByMarkers 9296 ps (m - 23) → losesBy h c ≡ true
     pub eighth : length ps ≡ suc m → (p k : ℕ) → Eighth 9296 (sizeAt ps) p k → length ps ≡ endOf 9296 k → losesBy h c ≡ true
     -- "from the next call on, its answers equal those of a new receiver started at that loss's restart position with the kept values of 01 and given
     -- the same calls", whatever that one's slot store holds

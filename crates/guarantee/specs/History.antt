@@ -14,7 +14,7 @@ use Rattle.sync_step.specs.declared.Event.the-variants.{Nothing, Head, Period, 
 use Rattle.sync_step.specs.declared.Events.{Events}
 use Rattle.sync_step.specs.Events.{noEvents}
 use Rattle.sync_tie.specs.Pushes.{Push}
-use Rattle.sync_tie.specs.Story.{heardTo, losesAt, tells, recordAt}
+use Rattle.sync_tie.specs.Stretch.{losesAt, tells, recordBefore, recordAt}
 use Rattle.sync_tie.specs.Claims.{anyHead}
 use Rattle.carrier.specs.declared.Nco.{Nco}
 use Rattle.carrier.specs.Carrier.{startedNco, rotatedOf, advancedNco, heardOf}
@@ -79,7 +79,7 @@ pushOf h x =
 unfoldable pub withSymbol : History → Input → List Push
 withSymbol h x = h .pushes ++ (pushOf h x ∷ [])
 
--- what its symbols tell with it: heads, a period's end, a loss (crate sync_tie, Story)
+-- what its symbols tell with it: heads, a period's end, a loss (crate sync_tie, Stretch)
 unfoldable pub eventsWith : History → Input → Events
 eventsWith h x = tells 9296 (h .base) (h .last) (withSymbol h x) (length (h .pushes))
 
@@ -131,7 +131,7 @@ keptIn h =
       taps = h .taps;
       from = h .from;
       points = h .points;
-      last = heardTo 9296 (h .base) (h .last) (h .pushes) (length (h .pushes) - 23) .course .last;
+      last = recordBefore 9296 (h .base) (h .last) (h .pushes) (length (h .pushes) - 23);
     }
 
 -- the history with a symbol that does not lose ..

@@ -236,7 +236,7 @@ module _ (n start : ℕ) (kept : Record) (b : ℕ → Both) where
         last = λ q. absurd (never (sym q ∙ m));
       }
 
-  none-one : markersLose b 1 ≡ false
+  pub none-one : markersLose b 1 ≡ false
   none-one = lose-none n start kept b 1 (first-waits (markedAt b) 0 none-zero (unmarked-other b 0 no-f-zero))
     where
       none-zero : firstMark b 0 ≡ none

@@ -11,6 +11,7 @@ pub mod Heads
 pub mod Early
 pub mod Ruled
 pub mod Markers
+pub mod Says
 pub mod Theorems
 pub mod Claims
 pub mod Entries

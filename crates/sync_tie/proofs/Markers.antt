@@ -29,7 +29,7 @@ module _ (n base : ℕ) (last : Record) (h : List Push) (c : ℕ) (z : 0 < n) wh
   no-lock e = rw e
 
   -- ---- a loss by markers is found
-  module _ (x : LostByMarkers n base last h c) where
+  module _ (x : LostByMarkers n h c) where
     abbrev k : ℕ
     k = x .period
 
@@ -57,7 +57,7 @@ module _ (n base : ℕ) (last : Record) (h : List Push) (c : ℕ) (z : 0 < n) wh
     loses = with-lock k (found .0) ∙ rw (reads, count, markers-tell (bothIn n base last h k) (x .number) .loses second) refl
 
   -- ---- and what is found is one
-  lost-with : (k : ℕ) → lockBefore n base last h c ≡ some k → markersLoseAt n base last h c ≡ true → LostByMarkers n base last h c
+  lost-with : (k : ℕ) → lockBefore n base last h c ≡ some k → markersLoseAt n base last h c ≡ true → LostByMarkers n h c
   unfolding bothIn
   lost-with k e m =
       let w = and-both (readsIn n base last h k c) (markersLose (bothIn n base last h k) (countIn n base last h k c)) (sym (with-lock k e) ∙ m) in
@@ -74,7 +74,7 @@ module _ (n base : ℕ) (last : Record) (h : List Push) (c : ℕ) (z : 0 < n) wh
       lock-in : (k : ℕ) → lockBefore n base last h c ≡ some k → LockIn n (sizeAt h) (placeIn n base last h k) k
       lock-in k e = unfold lockBefore placeIn in (lock-found n (sizeAt h) (c / n) .found-only k e .1)
 
-  loses-only : markersLoseAt n base last h c ≡ true → LostByMarkers n base last h c
+  loses-only : markersLoseAt n base last h c ≡ true → LostByMarkers n h c
   loses-only m = by-lock n base last h c (λ e. absurd (never (sym m ∙ no-lock e))) (λ k e. lost-with k e m)
 
 pub markers-are : MarkersClaim

@@ -12,7 +12,7 @@ use Rattle.sync_tie.proofs.Story as fold
 use Rattle.sync_tie.proofs.Told.{events-of, loss-of}
 use Rattle.sync_tie.specs.Pushes.{Push}
 use Rattle.sync_tie.specs.Stretch as rule
-use Rattle.sync_tie.specs.Tie.{Kept, Tie, begun}
+use Rattle.sync_tie.specs.Tie.{Kept, Tie, begun, pushes}
 use borrow.Author.Tests.{eqb-false, eqb-true, ltb-false, ltb-true}
 use lib.Dec.{eqb, ltb}
 use lib.ListN.{length}
@@ -47,6 +47,11 @@ module _ (n base : ℕ) (last : Record) (h : List Push) where
   unfolding fold.tells rule.tells
   tells-same m z k = ap (λ (es : Events). if ltb m 23 then noEvents else es) (ruled-at m z k .told)
 
+  -- the frame record after m pushes
+  pub record-now : (m : ℕ) → 0 < n → m ≤ length h → Kept n base last h m → pushes n (begun n base last) h m .sync .run .course .last ≡ rule.recordBefore n base last h (m - 23)
+  record-now m z l k =
+      ap (λ (u : Run). u .course .last) (follows n base last h m z l (kept-fold m z k) .run) ∙ ruled-at m z k .before
+
 pub tie : Tie
 tie n base last h m z l k =
     let g = kept-fold n base last h m z k in
@@ -54,7 +59,7 @@ tie n base last h m z l k =
     let r = ruled-at n base last h m z k in
     record {
       time = ap (λ (u : Run). u .t) (f .run);
-      record-is = ap (λ (u : Run). u .course .last) (f .run) ∙ r .before;
+      record-is = record-now n base last h m z (omega arith) k;
       events = events-of n base last h m z l g ∙ tells-same n base last h m z k;
       loss = λ b e. loss-of n base last h m z l g b (r .loses ∙ e) ∙ ap (begun n (base + suc m)) (r .record-is);
     }

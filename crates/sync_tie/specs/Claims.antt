@@ -74,8 +74,8 @@ ReadingClaim = (n base : ℕ) (last : Record) (h : List Push) (k p j : ℕ) → 
 
 -- the loss by markers, as a test of a position, is the loss by markers
 pub record MarkersAre (n base : ℕ) (last : Record) (h : List Push) (c : ℕ) : Type 0 where
-  pub loses : LostByMarkers n base last h c → markersLoseAt n base last h c ≡ true
-  pub loses-only : markersLoseAt n base last h c ≡ true → LostByMarkers n base last h c
+  pub loses : LostByMarkers n h c → markersLoseAt n base last h c ≡ true
+  pub loses-only : markersLoseAt n base last h c ≡ true → LostByMarkers n h c
 
 abbrev pub MarkersClaim : Type 0
 MarkersClaim = (n base : ℕ) (last : Record) (h : List Push) (c : ℕ) → 0 < n → MarkersAre n base last h c

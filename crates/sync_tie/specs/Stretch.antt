@@ -17,21 +17,20 @@ use Rattle.sync_history.specs.History.{LockIn, figures, lockIn, eighthAt}
 use Rattle.sync_history.specs.Heads.{MarkerLoss, capped, parity, markersLose, straysTo, missesTo, recordTo, firstTold, secondTold}
 use Rattle.sync_tie.specs.Pushes.{Push, bothAt, sizeAt}
 
+-- the loss by markers: a lock fell with a period at a place, position c is a reading of that place, and its head is the second in a row without its mark
+pub record LostByMarkers (n : ℕ) (h : List Push) (c : ℕ) : Type 0 where
+  pub place : ℕ
+  pub period : ℕ
+  pub falls : LockIn n (sizeAt h) place period
+  pub number : ℕ
+  pub reading : c ≡ (period + 1 + number) * n + place
+  pub second : MarkerLoss (λ i. bothAt h ((period + 1 + i) * n + place)) number
+
 -- "Offset 9,295 and a marker loss: `lost`, then a `period` of zeros."
 unfoldable pub zeros : SyncStats
 zeros = record { peak = 0; «peak_pos» = 0; sum = 0; locked = false; offset = 0; «ssync_parity» = 0; «stray_markers» = 0; «missed_markers» = 0 }
 
 module _ (n base : ℕ) (last : Record) (h : List Push) where
-  -- ---- the loss by markers: a lock fell with a period at a place, position c is a reading of that place, and its head is the second in a row without
-  -- its mark
-  pub record LostByMarkers (c : ℕ) : Type 0 where
-    pub place : ℕ
-    pub period : ℕ
-    pub falls : LockIn n (sizeAt h) place period
-    pub number : ℕ
-    pub reading : c ≡ (period + 1 + number) * n + place
-    pub second : MarkerLoss (λ i. bothAt h ((period + 1 + i) * n + place)) number
-
   -- ---- the lock while position c is completed: it has fallen with a whole period before, at that period's peak
   unfoldable pub lockBefore : ℕ → Option ℕ
   lockBefore c = lockIn n (sizeAt h) (c / n)
