@@ -1,10 +1,10 @@
 -- What the heads so far come to, written by the rules, goes on by the step's own rules head by head, as long as no head loses. Assumes nothing.
-use Prim.Native.Nat.{_%_, _*_, _+_, _-_, _/_, _<_, _≤_, _^_, max, min, suc, zero, ℕ}
+use Prim.Native.Nat.{_%_, _*_, _+_, _-_, _/_, _<_, _^_, suc, ℕ}
 use Rattle.laws.proofs.Tests.{and-both, by-test, never}
 use Rattle.laws.specs.Choice as choice
 use Rattle.laws.specs.Choice.{if-no, if-yes, if_then_else_, minus}
 use Rattle.sync_corr.specs.declared.Both.{Both}
-use Rattle.sync_heads.specs.Frames.{dueOf, elsewhereOf, frameDue, frameOf, framedOf, fsyncCourse, gapOf, marksOf, nextSlot, swayedOf, tickOf, unknownSlot, with-misses, with-sign, with-stray}
+use Rattle.sync_heads.specs.Frames.{dueOf, elsewhereOf, frameDue, frameOf, framedOf, fsyncCourse, gapOf, marksOf, nextSlot, swayedOf, tickOf, unknownSlot, with-sign}
 use Rattle.sync_heads.specs.declared.Course.{Course}
 use Rattle.sync_heads.specs.declared.Marked.{Marked}
 use Rattle.sync_heads.specs.declared.Record.the-variants.{Last, Never}
@@ -13,13 +13,13 @@ use Rattle.sync_heads.specs.declared.Slot.the-variants.{In, Unknown}
 use Rattle.sync_heads.specs.declared.Slot.{Slot}
 use Rattle.sync_history.proofs.Firsts.{by-first, first-begins, first-is, first-stays, first-waits}
 use Rattle.sync_history.proofs.Sway.{and-no, majority-small, marked-f, marks-is, sway-is, unmarked-other}
-use Rattle.sync_history.specs.Heads.{capped, clamped, expected, fAt, firstMark, frameAt, frameHead, majority, markedAt, markersLose, missedAt, missedSince, missesTo, parity, positionAt, positiveAt, recordSince, recordTo, slotAt, slotSince, ssyncAt, strayAt, straySince, straysTo}
-use borrow.Author.Tests.{eq-eqb, eqb-false, eqb-true, le-ltb, lt-ltb, ltb-true, ne-eqb}
+use Rattle.sync_history.specs.Heads.{capped, clamped, expected, fAt, firstMark, frameAt, majority, markedAt, markersLose, missedAt, missedSince, missesTo, parity, positionAt, positiveAt, recordSince, recordTo, slotSince, ssyncAt, strayAt, straySince, straysTo}
+use borrow.Author.Tests.{eq-eqb, eqb-false, eqb-true, le-ltb, lt-ltb}
 use lib.Dec.{eqb, ltb}
 use lib.IntN.{_+ℤ_, pos, ℤ}
 use mathlib.Core.Bool.{Bool, _&&_, false, not, true}
 use mathlib.Core.Option.{Option, none, some}
-use mathlib.Core.Path.{_∙_, _≡_, ap, refl, subst, sym}
+use mathlib.Core.Path.{_∙_, _≡_, ap, refl, sym}
 use native.Mathlib.Nat.{div-eq-of-lt-le}
 use native.Mathlib.Omega.{arith}
 

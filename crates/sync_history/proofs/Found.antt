@@ -1,15 +1,15 @@
 -- Lock and loss by periods as functions of the periods are what History says of them. Assumes nothing.
 use Prim.Native.Nat.{_+_, _-_, _<_, _≤_, suc, zero, ℕ}
 use Rattle.laws.proofs.Tests.{and-both, by-test, never}
-use Rattle.sync_history.proofs.Firsts.{First, by-first, first-found, first-is, first-none}
+use Rattle.sync_history.proofs.Firsts.{First, first-found, first-is}
 use Rattle.sync_history.specs.Claims.{LockFound}
-use Rattle.sync_history.specs.History.{CountsAt, Eighth, Fourth, LockIn, countsAt, eighthAt, figures, firstTo, fourthAt, lockIn, othersTo}
+use Rattle.sync_history.specs.History.{CountsAt, Eighth, Fourth, LockIn, countsAt, eighthAt, figures, fourthAt, lockIn, othersTo}
 use Rattle.sync_lock.specs.Period.{countsOf}
 use borrow.Author.Tests.{eq-eqb, eqb-false, eqb-true, le-leb, leb-true}
 use lib.Dec.{eqb, leb}
-use mathlib.Core.Bool.{Bool, _&&_, false, not, true}
+use mathlib.Core.Bool.{_&&_, false, not, true}
 use mathlib.Core.Option.{some}
-use mathlib.Core.Path.{_∙_, _≡_, ap, refl, subst, sym}
+use mathlib.Core.Path.{_∙_, _≡_, refl, subst, sym}
 use native.Mathlib.Omega.{arith}
 
 module _ (n : ℕ) (s : ℕ → ℕ) where

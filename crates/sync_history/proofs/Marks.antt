@@ -1,18 +1,15 @@
 -- A closed run of the readings, by computing, by the step and by the rules: two missed markers in a row lose, and one does not. Assumes nothing.
 use Prim.Native.Nat.{ℕ, zero, suc, _+_, _*_, _%_}
-use mathlib.Core.Bool.{Bool, true, false, _||_}
+use mathlib.Core.Bool.{true, false, _||_}
 use mathlib.Core.Option.{some}
 use mathlib.Core.Path.{_≡_, refl}
 use lib.Dec.{eqb}
-use lib.IntN.{ℤ, pos}
+use lib.IntN.{pos}
 use Rattle.laws.specs.Choice as choice
 use Rattle.laws.specs.Choice.{if_then_else_, minus}
 use Rattle.fx.specs.Fx.{magApprox}
 use Rattle.sync_corr.specs.declared.Both.{Both}
 use Rattle.sync_corr.specs.declared.Corr.{Corr}
-use Rattle.sync_heads.specs.declared.Reading.{Reading}
-use Rattle.sync_heads.specs.declared.Course.{Course}
-use Rattle.sync_heads.specs.declared.Stage.{Stage}
 use Rattle.sync_heads.specs.declared.Stage.the-variants.{Before}
 use Rattle.sync_heads.specs.declared.Slot.the-variants.{Unknown, In}
 use Rattle.sync_heads.specs.declared.Record.the-variants.{Never, Last}

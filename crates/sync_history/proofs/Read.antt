@@ -1,18 +1,15 @@
 -- What the step makes of each reading is what the rules say, as long as none before has lost. Assumes nothing.
-use Prim.Native.Nat.{_%_, _+_, _-_, _<_, _≤_, suc, zero, ℕ}
-use Rattle.fx.specs.Cordic.{cordicOf}
+use Prim.Native.Nat.{_%_, _-_, _<_, _≤_, suc, zero, ℕ}
 use Rattle.laws.proofs.Tests.{and-both, by-test, if-either, never}
 use Rattle.laws.specs.Choice as choice
 use Rattle.laws.specs.Choice.{if-no, if-yes, if_then_else_}
 use Rattle.sync_corr.specs.declared.Both.{Both}
 use Rattle.sync_corr.specs.declared.Corr.{Corr}
-use Rattle.sync_heads.specs.Frames.{fsyncCourse, nextSlot, with-sign}
+use Rattle.sync_heads.specs.Frames.{nextSlot, with-sign}
 use Rattle.sync_heads.specs.Heads.{bothHeads, firstOf, fsyncOf, fsyncTaken, headOf, isFsync, knownOf, readOf, ssyncOf, ssyncTaken}
-use Rattle.sync_heads.specs.Words.{marginOf, negated, saidOf, sideOf}
+use Rattle.sync_heads.specs.Words.{marginOf, saidOf, sideOf}
 use Rattle.sync_heads.specs.declared.Course.{Course}
-use Rattle.sync_heads.specs.declared.Head.{Head}
 use Rattle.sync_heads.specs.declared.Headed.the-variants.{Nothing, One}
-use Rattle.sync_heads.specs.declared.Headed.{Headed}
 use Rattle.sync_heads.specs.declared.Reading.{Reading}
 use Rattle.sync_heads.specs.declared.Record.{Record}
 use Rattle.sync_heads.specs.declared.Said.{Said}
@@ -22,21 +19,19 @@ use Rattle.sync_heads.specs.declared.Stage.the-variants.{Before, First, Known}
 use Rattle.sync_heads.specs.declared.Stage.{Stage}
 use Rattle.sync_heads.specs.declared.Taken.{Taken}
 use Rattle.sync_heads.specs.declared.Told.{Told}
-use Rattle.sync_heads.specs.declared.Word.the-variants.{Fsync, NotFsync, Ssync}
-use Rattle.sync_heads.specs.declared.Word.{Word}
-use Rattle.sync_history.proofs.Course.{Comes, comesTo, courseSince, courseTo, f-step, heldSince, lose-none, other-keeps, other-step}
+use Rattle.sync_history.proofs.Course.{comesTo, courseSince, courseTo, f-step, heldSince, lose-none, other-keeps, other-step}
 use Rattle.sync_history.proofs.Firsts.{by-first, first-found, first-is, first-waits}
 use Rattle.sync_history.proofs.Sway.{unmarked-other}
-use Rattle.sync_history.specs.Claims.{HeadsClaim, HeadsTell, MarkersTell, heardTo, readAt}
+use Rattle.sync_history.specs.Claims.{HeadsClaim, MarkersTell, heardTo, readAt}
 use Rattle.sync_history.specs.History.{firstTo}
-use Rattle.sync_history.specs.Heads.{MarkerLoss, Missed, capped, corrAt, expected, fAt, firstMark, firstTold, headAt, majority, markedAt, markersLose, missedAt, missedSince, missesTo, parity, positionAt, positiveAt, recordSince, recordTo, secondTold, slotAt, slotSince, ssyncAt, straysTo, wordAt}
+use Rattle.sync_history.specs.Heads.{MarkerLoss, capped, corrAt, expected, fAt, firstMark, firstTold, headAt, majority, markedAt, markersLose, missedAt, missedSince, missesTo, parity, positionAt, positiveAt, recordSince, recordTo, secondTold, slotAt, slotSince, ssyncAt, straysTo, wordAt}
 use borrow.Author.Tests.{eq-eqb, eqb-false, eqb-true, lt-ltb, ltb-true, ne-eqb}
 use lib.Dec.{eqb, ltb}
-use lib.IntN.{pos, ℤ}
+use lib.IntN.{pos}
 use lib.Signed.{ltZ}
 use mathlib.Core.Bool.{Bool, _&&_, false, not, true}
 use mathlib.Core.Option.{none, some}
-use mathlib.Core.Path.{_∙_, _≡_, ap, refl, subst, sym}
+use mathlib.Core.Path.{_∙_, _≡_, ap, refl, sym}
 use native.Mathlib.Omega.{arith}
 
 module _ (n start : ℕ) (kept : Record) (b : ℕ → Both) where

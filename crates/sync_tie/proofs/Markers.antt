@@ -1,12 +1,11 @@
 -- The loss by markers, as a test of a position, is the loss by markers. Assumes nothing.
-use Prim.Native.Nat.{_%_, _*_, _+_, _-_, _/_, _<_, suc, ℕ}
+use Prim.Native.Nat.{_%_, _*_, _+_, _-_, _/_, _<_, ℕ}
 use Rattle.laws.proofs.Tests.{and-both, never}
-use Rattle.sync_corr.specs.declared.Both.{Both}
 use Rattle.sync_heads.specs.declared.Record.{Record}
 use Rattle.sync_history.proofs.Found.{lock-found}
 use Rattle.sync_history.proofs.Read.{markers-tell}
 use Rattle.sync_history.specs.Heads.{MarkerLoss, markersLose}
-use Rattle.sync_history.specs.History.{LockIn, figures, lockIn}
+use Rattle.sync_history.specs.History.{LockIn}
 use Rattle.sync_tie.proofs.Places.{parts}
 use Rattle.sync_tie.proofs.Ruled.{at-place, by-lock, count-front, lock-falls, place-in}
 use Rattle.sync_tie.specs.Claims.{MarkersClaim}

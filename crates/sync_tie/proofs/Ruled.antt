@@ -4,7 +4,6 @@ use Rattle.laws.proofs.Tests.{and-both, by-test, if-cong, neither, never}
 use Rattle.laws.specs.Choice as choice
 use Rattle.laws.specs.Choice.{if-no, if-yes, if_then_else_}
 use Rattle.sync_corr.specs.declared.Both.{Both}
-use Rattle.sync_heads.specs.Heads.{readOf}
 use Rattle.sync_heads.specs.declared.Course.{Course}
 use Rattle.sync_heads.specs.declared.Headed.the-variants.{Nothing as NoHead}
 use Rattle.sync_heads.specs.declared.Headed.{Headed}
@@ -16,33 +15,30 @@ use Rattle.sync_history.proofs.Course.{courseTo}
 use Rattle.sync_history.proofs.Figures.{first-greatest}
 use Rattle.sync_history.proofs.Firsts.{by-first, first-found, first-is, first-stays}
 use Rattle.sync_history.proofs.Found.{lock-found}
-use Rattle.sync_history.proofs.Read.{ReadIs, course-last, course-missed, course-stray, course-zero, read-is, read-last, stageTo}
-use Rattle.sync_history.specs.Claims.{LockedBy, LosesIn, RuleTells, lockTo}
-use Rattle.sync_history.specs.Heads.{capped, firstTold, markersLose, missesTo, parity, positionAt, recordTo, secondTold, straysTo}
-use Rattle.sync_history.specs.History.{Eighth, LockIn, accAfter, eighthAt, figures, figuresTo, firstTo, fourthAt, lockIn}
+use Rattle.sync_history.proofs.Read.{ReadIs, course-last, course-missed, course-stray, course-zero, read-is, stageTo}
+use Rattle.sync_history.specs.Claims.{RuleTells, lockTo}
+use Rattle.sync_history.specs.Heads.{firstTold, markersLose, parity, positionAt, secondTold}
+use Rattle.sync_history.specs.History.{LockIn, accAfter, eighthAt, figures, figuresTo, firstTo, fourthAt, lockIn}
 use Rattle.sync_lock.specs.Period.{countsOf, noTally}
 use Rattle.sync_lock.specs.Rule.{lockedAt, ruleOf}
 use Rattle.sync_lock.specs.declared.Lock.the-variants.{Locked, Search}
 use Rattle.sync_lock.specs.declared.Lock.{Lock}
 use Rattle.sync_lock.specs.declared.Tally.{Tally}
-use Rattle.sync_lock.specs.declared.Verdict.the-variants.{Loses}
-use Rattle.sync_lock.specs.declared.Verdict.{Verdict}
 use Rattle.sync_step.specs.Events.{eventOf, headsOf, noEvents, thenOf}
 use Rattle.sync_step.specs.Step.{isLocked, losesOf, offsetOf, parityOf, startedOf, statsOf}
 use Rattle.sync_step.specs.declared.Event.the-variants.{Lost, Nothing, Period}
-use Rattle.sync_step.specs.declared.Events.{Events}
 use Rattle.sync_step.specs.declared.SyncStats.{SyncStats}
 use Rattle.sync_tie.proofs.Early.{loses-true}
 use Rattle.sync_tie.proofs.Heads.{taken-other, taken-reading}
 use Rattle.sync_tie.proofs.Kept.{locked-is, rule-kept}
-use Rattle.sync_tie.proofs.Places.{next-end, next-in, parts, place-less, whole}
+use Rattle.sync_tie.proofs.Places.{next-end, next-in, place-less, whole}
 use Rattle.sync_tie.proofs.Story as fold
 use Rattle.sync_tie.proofs.Story.{Heard}
 use Rattle.sync_tie.proofs.Track.{heard-next}
 use Rattle.sync_tie.specs.Pushes.{Push, bothAt, sizeAt}
 use Rattle.sync_tie.specs.Stretch as rule
 use Rattle.sync_tie.specs.Stretch.{bothIn, countIn, eighthIn, headsIn, lockBefore, markersIn, placeIn, readsIn, recordIn, startIn, statsIn, zeros}
-use borrow.Author.Tests.{eq-eqb, eqb-false, eqb-true, le-ltb, lt-ltb, ltb-false, ltb-true, ne-eqb}
+use borrow.Author.Tests.{eqb-false, eqb-true, le-ltb, lt-ltb, ltb-false, ltb-true}
 use lib.Dec.{eqb, leb, ltb}
 use mathlib.Core.Bool.{Bool, _&&_, _||_, false, true}
 use mathlib.Core.List.{List}

@@ -19,9 +19,9 @@ use Rattle.sync_tie.specs.Pushes.{Push, sizeAt}
 use Rattle.sync_tie.specs.Stretch.{bothIn, countIn, eighthEnds, eighthIn, headsAt, headsIn, lockBefore, markersIn, markersLoseAt, readsIn, startIn, tells, toldAt}
 use borrow.Author.Tests.{le-ltb, lt-ltb}
 use lib.Dec.{ltb}
-use mathlib.Core.Bool.{_&&_, false, true}
+use mathlib.Core.Bool.{true}
 use mathlib.Core.List.{List}
-use mathlib.Core.Option.{none, some}
+use mathlib.Core.Option.{none}
 use mathlib.Core.Path.{_∙_, _≡_, ap, refl, sym}
 
 alone : (n start : ℕ) (last : Record) (b : ℕ → Both) (i : ℕ) → markersLose b i ≡ true → secondTold n start last b i ≡ NoHead

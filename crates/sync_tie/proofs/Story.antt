@@ -1,6 +1,6 @@
 -- A stretch of pushes folded by the step's own rules: what stands between the step and the rules of specs/Stretch. Follow proves that the sync tells it,
 -- Ruled that it is what Stretch says. Assumes nothing.
-use Prim.Native.Nat.{ℕ, zero, suc, _+_, _-_, _/_, _%_, _≤_, _<_}
+use Prim.Native.Nat.{ℕ, zero, suc, _+_, _-_, _/_, _%_, _<_}
 use mathlib.Core.Bool.{Bool, true, false}
 use mathlib.Core.List.{List}
 use mathlib.Core.Path.{_≡_}

@@ -13,12 +13,12 @@ use Rattle.sync_tie.proofs.Told.{events-of, loss-of}
 use Rattle.sync_tie.specs.Pushes.{Push}
 use Rattle.sync_tie.specs.Stretch as rule
 use Rattle.sync_tie.specs.Tie.{Kept, Tie, begun, pushes}
-use borrow.Author.Tests.{eqb-false, eqb-true, ltb-false, ltb-true}
+use borrow.Author.Tests.{eqb-false, eqb-true}
 use lib.Dec.{eqb, ltb}
 use lib.ListN.{length}
-use mathlib.Core.Bool.{false, true}
+use mathlib.Core.Bool.{false}
 use mathlib.Core.List.{List}
-use mathlib.Core.Path.{_∙_, _≡_, ap, refl, sym}
+use mathlib.Core.Path.{_∙_, _≡_, ap, sym}
 use native.Mathlib.Omega.{arith}
 -- for every list of pushes: it may be cut anywhere
 pub use Rattle.sync_tie.proofs.Told.{cut}

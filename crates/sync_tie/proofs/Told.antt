@@ -7,7 +7,6 @@ use Rattle.sync_corr.specs.Correlate.{at}
 use Rattle.sync_heads.specs.declared.Record.{Record}
 use Rattle.sync_step.specs.Events.{noCorr, noEvents}
 use Rattle.sync_step.specs.Step.{earlyOf, startedOf}
-use Rattle.sync_step.specs.declared.Run.{Run}
 use Rattle.sync_step.specs.declared.Step.{Step}
 use Rattle.sync_step.specs.declared.Stores.the-variants.{Zeros}
 use Rattle.sync_tie.proofs.Follow.{early-step, follows, pushed-is}

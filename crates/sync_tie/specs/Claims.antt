@@ -1,21 +1,21 @@
 -- What the slot sync alone is claimed to do, on what was pushed; proofs/Claims.antt proves it. All positions are counted from the stretch's first, and
 -- `after m` is the sync after m pushes of a stretch of which none lost.
-use Prim.Native.Nat.{ℕ, suc, _+_, _-_, _*_, _%_, _≤_, _<_}
+use Prim.Native.Nat.{ℕ, suc, _+_, _-_, _*_, _≤_, _<_}
 use mathlib.Core.Bool.{Bool, true, false, _||_}
 use mathlib.Core.List.{List}
 use mathlib.Core.Logic.{_⊎_}
 use mathlib.Core.Path.{_≡_}
-use lib.ListN.{length, getD, replicate}
+use lib.ListN.{length, replicate}
 use Rattle.sync_heads.specs.declared.Record.{Record}
 use Rattle.sync_step.specs.declared.Event.{Event}
 use Rattle.sync_step.specs.declared.Event.the-variants.{Nothing, Head, Period, Lost}
 use Rattle.sync_step.specs.declared.Events.{Events}
 use Rattle.sync_step.specs.Step.{isLocked, offsetOf}
-use Rattle.sync_history.specs.History.{LockIn, LockOn, LockBy, LossBy, Premise}
+use Rattle.sync_history.specs.History.{LockIn, LockBy, LossBy, Premise}
 use Rattle.sync.specs.declared.SlotSync.{SlotSync}
 use Rattle.sync.specs.Sync.{startedSync}
 use Rattle.sync.specs.Answers.{pushAnswer, pushAcc, restartAnswer, restartAcc}
-use Rattle.sync_tie.specs.Pushes.{Push, noPush, sizeAt}
+use Rattle.sync_tie.specs.Pushes.{Push, sizeAt}
 use Rattle.sync_tie.specs.Stretch.{LostByMarkers, markersLoseAt, tells}
 use Rattle.sync_tie.specs.Tie.{Held, stepOn, pushOn, pushes, begun, Kept}
 

@@ -56,10 +56,12 @@ module _ (n base : ℕ) (last : Record) (h : List Push) where
   startIn k = base + ((k + 1) * n + placeIn k)
 
   -- ---- what position c comes to with the lock that has fallen, if one has
+  -- a reading whose head is the second in a row without its mark
   unfoldable pub markersIn : Option ℕ → ℕ → Bool
   markersIn none c = false
   markersIn (some k) c = readsIn k c && markersLose (bothIn k) (countIn k c)
 
+  -- the heads that a reading tells
   unfoldable pub headsIn : Option ℕ → ℕ → Events
   headsIn none c = noEvents
   headsIn (some k) c =
@@ -68,14 +70,17 @@ module _ (n base : ℕ) (last : Record) (h : List Push) where
       then record { first = eventOf (firstTold n (startIn k) last (bothIn k) i); second = eventOf (secondTold n (startIn k) last (bothIn k) i); third = Nothing }
       else noEvents
 
+  -- its period is an eighth other one in a row
   unfoldable pub eighthIn : Option ℕ → ℕ → Bool
   eighthIn none c = false
   eighthIn (some k) c = eighthAt n (sizeAt h) k (c / n)
 
+  -- the frame record of the readings among the first c positions
   unfoldable pub recordIn : Option ℕ → ℕ → Record
   recordIn none c = last
   recordIn (some k) c = recordTo n (startIn k) last (bothIn k) (countIn k c)
 
+  -- the statistics of the period that ends with position c: figures, lock, and of the readings so far the parity, known from the second on, and the counters
   unfoldable pub statsIn : Option ℕ → ℕ → SyncStats
   statsIn none c =
       let y = figures n (sizeAt h) (c / n) in
@@ -94,7 +99,7 @@ module _ (n base : ℕ) (last : Record) (h : List Push) where
         «missed_markers» = capped (missesTo (bothIn k) i);
       }
 
-  -- ---- losses
+  -- ---- losses: with the lock before position c
   unfoldable pub markersLoseAt : ℕ → Bool
   markersLoseAt c = markersIn (lockBefore c) c
 
@@ -102,7 +107,6 @@ module _ (n base : ℕ) (last : Record) (h : List Push) where
   unfoldable pub endsAt : ℕ → Bool
   endsAt c = eqb (c % n) (n - 1)
 
-  -- the period of position c is an eighth other in a row
   unfoldable pub eighthEnds : ℕ → Bool
   eighthEnds c = eighthIn (lockBefore c) c
 

@@ -1,6 +1,6 @@
 -- THE TIE: for every list of pushes from a started sync, as long as none before has lost, the step's heads, periods, losses and records are exactly
 -- what happened. After a loss the sync is a started one, so the same holds from the restart position on.
-use Prim.Native.Nat.{ℕ, zero, suc, _+_, _-_, _*_, _%_, _/_, _≤_, _<_}
+use Prim.Native.Nat.{ℕ, zero, suc, _+_, _-_, _≤_, _<_}
 use mathlib.Core.Bool.{true, false}
 use mathlib.Core.List.{List}
 use mathlib.Core.Path.{_≡_}
