@@ -74,7 +74,7 @@ unfoldable pub labelCall : Kept → List ℕ → List ℕ
 labelCall k p = labelTold (k .learn) (at p 1)
 
 unfoldable pub figureCall : Kept → List ℕ
-figureCall k = figureTold (figureAnswer (k .learn))
+figureCall k = let r = figureAnswer (k .learn) in figureTold (r .refusal) (r .figure)
 
 -- ---- what is in force
 unfoldable pub defaultCall : Kept → Turn

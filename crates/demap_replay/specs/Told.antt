@@ -8,7 +8,7 @@ use lib.ListN.{getD, replicate}
 use Rattle.laws.specs.Choice.{if_then_else_}
 use Rattle.learn.specs.declared.Learn.{Learn}
 use Rattle.learn.specs.declared.Figure.{Figure}
-use Rattle.learn.specs.declared.Figure.the-variants.{Value, None, Refused}
+use Rattle.learn.specs.declared.Figure.the-variants.{Value, None}
 use Rattle.learn.specs.Learning.{sumAt, countAt}
 use Rattle.in_force.specs.declared.InForce.{InForce}
 use Rattle.in_force.specs.declared.Source.{Source}
@@ -34,10 +34,9 @@ softTold refusal o s =
     else singleTold 255 0 0
 
 -- ---- a noise figure: whether there is one, and it
-unfoldable pub figureTold : Figure → List ℕ
-figureTold (Value v) = singleTold 0 1 (bits v)
-figureTold None = singleTold 0 0 0
-figureTold (Refused n) = singleTold n 0 0
+unfoldable pub figureTold : ℕ → Figure → List ℕ
+figureTold refusal (Value v) = singleTold refusal 1 (bits v)
+figureTold refusal None = singleTold refusal 0 0
 
 -- ---- what is in force: five flags, noise figure, scale, whether there is a frame, its number
 unfoldable pub knownOf : Source → ℕ

@@ -158,6 +158,7 @@ pub(crate) fn figure(k: Kept) -> [u64; 24]
     ensures { λ r. ⌜ r ≡ figureCall k ⌝ }
 {
     let l = k.learn;
-    let f = learn::n0(l);
-    told::figure(f)
+    let r = learn::n0(l);
+    let f = r.figure;
+    told::figure(r.refusal, f)
 }

@@ -72,13 +72,12 @@ pub(crate) fn soft(refusal: u8, o: u64, s: &[i8; 41]) -> [u64; 24]
 }
 
 // A noise figure: whether there is one, and it.
-pub(crate) fn figure(f: Figure) -> [u64; 24]
-    ensures { λ r. ⌜ r ≡ figureTold f ⌝ }
+pub(crate) fn figure(refusal: u8, f: Figure) -> [u64; 24]
+    ensures { λ r. ⌜ r ≡ figureTold refusal f ⌝ }
 {
     match f {
-        Figure::Value(v) => single(0, 1, wire::to_bits(v)),
-        Figure::None => single(0, 0, 0),
-        Figure::Refused(n) => single(n, 0, 0),
+        Figure::Value(v) => single(refusal, 1, wire::to_bits(v)),
+        Figure::None => single(refusal, 0, 0),
     }
 }
 

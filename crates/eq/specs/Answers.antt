@@ -13,8 +13,7 @@ use Rattle.eq.specs.declared.Kept.{Kept}
 use Rattle.eq.specs.declared.Pushed.{Pushed}
 use Rattle.eq.specs.declared.Closed.{Closed}
 use Rattle.eq.specs.declared.Answered.{Answered}
-use Rattle.eq.specs.declared.Answered.the-variants.{Given, Refused}
-use Rattle.eq.specs.declared.Equalised.the-variants.{Nothing}
+use Rattle.eq.specs.declared.Equalised.the-variants.{Nothing, Given}
 use Rattle.eq.specs.Eq.{startedEq, pushedEq, outputAt, withSums, loadedEq, trainsEq, trainedEq}
 use Rattle.eq.specs.Ranges.{eqInRange}
 
@@ -33,7 +32,10 @@ pushAnswer e i q =
     if eqInRange e then record { refusal = 0; eq = n; out = outputAt n } else record { refusal = 6; eq = e; out = Nothing }
 
 unfoldable pub outputAnswer : Equaliser → Answered
-outputAnswer e = if eqInRange e then Given (outputOf (e .taps) (e .line)) else Refused 6
+outputAnswer e =
+    if eqInRange e
+    then record { refusal = 0; eq = e; out = Given (outputOf (e .taps) (e .line)) }
+    else record { refusal = 6; eq = e; out = Nothing }
 
 unfoldable pub openAnswer : Equaliser → ℕ → Kept
 openAnswer e frame = if eqInRange e then kept (withSums e true (emptySums frame)) else refused 6 e

@@ -30,9 +30,11 @@ pub enum Equalised {
     Given(Symbol),
 }
 
-pub enum Answered {
-    Given(Symbol),
-    Refused(u8),
+// An output for the line as it is.
+pub struct Answered {
+    pub refusal: u8,
+    pub eq: Equaliser,
+    pub out: Equalised,
 }
 
 pub struct Kept {
@@ -106,9 +108,17 @@ pub fn output(e: Equaliser) -> Answered
     if plain::in_range(e) {
         let line = e.line;
         let taps = e.taps;
-        Answered::Given(eq_fir::ranged::output(&taps, &line))
+        Answered {
+            refusal: 0,
+            eq: e,
+            out: Equalised::Given(eq_fir::ranged::output(&taps, &line)),
+        }
     } else {
-        Answered::Refused(6)
+        Answered {
+            refusal: 6,
+            eq: e,
+            out: Equalised::Nothing,
+        }
     }
 }
 

@@ -4,8 +4,6 @@ use mathlib.Core.List.{List}
 use Rattle.eq.specs.declared.Equaliser.{Equaliser}
 use Rattle.eq.specs.declared.Equalised.{Equalised}
 use Rattle.eq.specs.declared.Equalised.the-variants.{Nothing, Given}
-use Rattle.eq.specs.declared.Answered.{Answered}
-use Rattle.eq.specs.declared.Answered.the-variants.{Given as AnsweredGiven, Refused}
 use Rattle.eq.specs.Eq.{newEq, withSums}
 use Rattle.eq.specs.Answers.{restartAnswer, pushAnswer, outputAnswer, openAnswer, trainAnswer, closeAnswer, loadAnswer}
 use Rattle.solve.specs.Answers.{solveAnswer}
@@ -38,12 +36,10 @@ pushCall k p =
     let r = pushAnswer (k .eq) (signed16 p 1) (signed16 p 2) in
     turned (withEq k (r .eq)) (symbolTold (withEq k (r .eq)) (r .refusal) (r .out))
 
-unfoldable pub answeredTold : Kept → Answered → List ℕ
-answeredTold k (AnsweredGiven z) = toldOf k 0 1 (bits (z .i)) (bits (z .q))
-answeredTold k (Refused n) = toldOf k n 0 0 0
-
 unfoldable pub outputCall : Kept → Turn
-outputCall k = turned k (answeredTold k (outputAnswer (k .eq)))
+outputCall k =
+    let r = outputAnswer (k .eq) in
+    turned (withEq k (r .eq)) (symbolTold (withEq k (r .eq)) (r .refusal) (r .out))
 
 unfoldable pub openCall : Kept → List ℕ → Turn
 openCall k p = let r = openAnswer (k .eq) (at32 p 1) in plain k (r .refusal) (r .eq)

@@ -4,11 +4,10 @@ use crate::kept;
 use crate::kept::Kept;
 use crate::kept::Turn;
 use crate::told;
-use eq::Answered;
 use eq::Equalised;
 use eq::Equaliser;
 ghost use mathlib.Core.Path.{_≡_};
-ghost use Rattle.eq_calls.specs.Calls.{plain, symbolTold, answeredTold, newCall, restartCall, pushCall, outputCall, openCall, trainCall, closeCall, loadCall, lineCall, tapsCall, numbersCall, upperCall, rightCall, keepCall, solveCall};
+ghost use Rattle.eq_calls.specs.Calls.{plain, symbolTold, newCall, restartCall, pushCall, outputCall, openCall, trainCall, closeCall, loadCall, lineCall, tapsCall, numbersCall, upperCall, rightCall, keepCall, solveCall};
 
 // A refusal, or 0, and an equaliser.
 pub(crate) fn plain(k: Kept, refusal: u8, e: Equaliser) -> Turn
@@ -59,26 +58,16 @@ pub(crate) fn push(k: Kept, p: &[u64; 24]) -> Turn
     kept::turned(n, t)
 }
 
-fn answered_told(k: Kept, a: Answered) -> [u64; 24]
-    ensures { λ r. ⌜ r ≡ answeredTold k a ⌝ }
-{
-    match a {
-        Answered::Given(z) => {
-            let i = wire::bits16(z.i);
-            let q = wire::bits16(z.q);
-            told::told(k, 0, 1, i, q)
-        }
-        Answered::Refused(n) => told::told(k, n, 0, 0, 0),
-    }
-}
-
 pub(crate) fn output(k: Kept) -> Turn
     ensures { λ r. ⌜ r ≡ outputCall k ⌝ }
 {
     let e = k.eq;
-    let a = eq::output(e);
-    let t = answered_told(k, a);
-    kept::turned(k, t)
+    let r = eq::output(e);
+    let m = r.eq;
+    let out = r.out;
+    let n = kept::with_eq(k, m);
+    let t = symbol_told(n, r.refusal, out);
+    kept::turned(n, t)
 }
 
 pub(crate) fn open(k: Kept, p: &[u64; 24]) -> Turn

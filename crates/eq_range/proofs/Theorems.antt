@@ -6,11 +6,12 @@ use Rattle.eq.specs.Eq.{loadedEq, newEq, outputAt, pushedEq, startedEq, trained
 use Rattle.eq.specs.Ranges.{eqInRange}
 use Rattle.eq.specs.declared.Closed.{Closed}
 use Rattle.eq.specs.declared.Equaliser.{Equaliser}
+use Rattle.eq.specs.declared.Answered.{Answered}
 use Rattle.eq.specs.declared.Kept.{Kept}
 use Rattle.eq.specs.declared.Pushed.{Pushed}
 use Rattle.eq.specs.declared.TapsFrom.{TapsFrom}
 use Rattle.eq_range.proofs.Kept.{closed-coherent, coherent-in-range, loaded-coherent, open-coherent, pushed-coherent, refusal-0, refusal-8, started-coherent, trained-coherent, trains-open}
-use Rattle.eq_range.specs.Calls.{Call, CallFits, CallsFit, CallsKeep, Keeps, Sound, answeredRefusal, eqAfter, eqOf, refusalOf, closes, loads, opens, outputs, pushes, restarts, trains}
+use Rattle.eq_range.specs.Calls.{Call, CallFits, CallsFit, CallsKeep, Keeps, Sound, eqAfter, eqOf, refusalOf, closes, loads, opens, outputs, pushes, restarts, trains}
 use Rattle.eq_range.specs.Coherent.{Coherent}
 use Rattle.eq_range.specs.History.{Gives, NoRestart, Pushes, StaysOpen, counts, symbolsIn, trainingsIn}
 use Rattle.eq_train.proofs.Theorems.{empty-sound, holds-trainings}
@@ -67,10 +68,10 @@ train-not-6 e r h =
     (λ t. clash (trainRefusal e) (refusal-0 e r t) h not-0-6)
 
 not-6 : (e : Equaliser) → eqInRange e ≡ true → (c : Call) → refusalOf e c ≡ 6 → ⊥
-unfolding refusalOf answeredRefusal restartAnswer pushAnswer outputAnswer openAnswer trainAnswer closeAnswer loadAnswer
+unfolding refusalOf restartAnswer pushAnswer outputAnswer openAnswer trainAnswer closeAnswer loadAnswer
 not-6 e r restarts h = clash _ (ap (λ (x : Kept). x .refusal) (if-yes (eqInRange e) _ _ r)) h not-0-6
 not-6 e r (pushes i q) h = clash _ (ap (λ (x : Pushed). x .refusal) (if-yes (eqInRange e) _ _ r)) h not-0-6
-not-6 e r outputs h = clash _ (ap answeredRefusal (if-yes (eqInRange e) _ _ r)) h not-0-6
+not-6 e r outputs h = clash _ (ap (λ (x : Answered). x .refusal) (if-yes (eqInRange e) _ _ r)) h not-0-6
 not-6 e r (opens frame) h = clash _ (ap (λ (x : Kept). x .refusal) (if-yes (eqInRange e) _ _ r)) h not-0-6
 not-6 e r (trains di dq) h = if-both (λ (x : Kept). x .refusal ≡ 6 → ⊥) (eqb (trainRefusal e) 0) _ _ not-0-6 (train-not-6 e r) h
 not-6 e r closes h =

@@ -6,8 +6,6 @@ use mathlib.Core.Path.{_≡_}
 use lib.IntN.{ℤ}
 use mir.Syntax.{w16}
 use mir.Val.{SFits}
-use Rattle.eq.specs.declared.Answered.{Answered}
-use Rattle.eq.specs.declared.Answered.the-variants.{Given, Refused}
 use Rattle.eq.specs.declared.Equaliser.{Equaliser}
 use Rattle.eq.specs.declared.TapsFrom.{TapsFrom}
 use Rattle.eq.specs.Eq.{startedEq, newEq, trainsEq}
@@ -26,14 +24,10 @@ pub data Call : Type 0 where
   loads : List ℤ → ℕ → Call
 
 -- the refusal that a call on e answers, 0 if none
-unfoldable pub answeredRefusal : Answered → ℕ
-answeredRefusal (Given z) = 0
-answeredRefusal (Refused n) = n
-
 unfoldable pub refusalOf : Equaliser → Call → ℕ
 refusalOf e restarts = restartAnswer e .refusal
 refusalOf e (pushes i q) = pushAnswer e i q .refusal
-refusalOf e outputs = answeredRefusal (outputAnswer e)
+refusalOf e outputs = outputAnswer e .refusal
 refusalOf e (opens frame) = openAnswer e frame .refusal
 refusalOf e (trains di dq) = trainAnswer e di dq .refusal
 refusalOf e closes = closeAnswer e .refusal

@@ -20,7 +20,7 @@ nextRefusal f l len = if eqb len 124 then if forceInRange f then if learnInRange
 unfoldable pub nextAnswer : InForce → Learn → ℕ → List ℤ → Renewed
 nextAnswer f l frame learned =
     let n = nextRefusal f l (length learned) in
-    if eqb n 0 then record { refusal = 0; «in_force» = renewedOf f l frame } else record { refusal = n; «in_force» = f }
+    if eqb n 0 then record { refusal = 0; «in_force» = renewedOf f l frame; learn = l } else record { refusal = n; «in_force» = f; learn = l }
 
 unfoldable pub nextSlice : InForce → Learn → List ℤ → List ℤ
 nextSlice f l learned = if eqb (nextRefusal f l (length learned)) 0 then slicesLearned l 5 learned else learned

@@ -25,6 +25,7 @@ pub struct InForce {
 pub struct Renewed {
     pub refusal: u8,
     pub in_force: InForce,
+    pub learn: Learn,
 }
 
 // Before the first frame: nominal points, and the noise of 13 dB.
@@ -48,11 +49,13 @@ pub fn next(f: InForce, l: Learn, frame: u32, learned: &mut [i16]) -> Renewed
         Renewed {
             refusal: 0,
             in_force: ranged::renewed(f, l, frame, learned),
+            learn: l,
         }
     } else {
         Renewed {
             refusal: n,
             in_force: f,
+            learn: l,
         }
     }
 }

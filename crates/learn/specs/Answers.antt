@@ -11,7 +11,8 @@ use Rattle.learn.specs.declared.Learn.{Learn}
 use Rattle.learn.specs.declared.Learned.{Learned}
 use Rattle.learn.specs.declared.Pointed.{Pointed}
 use Rattle.learn.specs.declared.Figure.{Figure}
-use Rattle.learn.specs.declared.Figure.the-variants.{Value, None, Refused}
+use Rattle.learn.specs.declared.Figure.the-variants.{Value, None}
+use Rattle.learn.specs.declared.Figured.{Figured}
 use Rattle.learn.specs.Sets.{badBits, placeOf}
 use Rattle.learn.specs.Learning.{countAt, pilotedAt, sampledBy, setLearned, learnedSlice, meanNoise}
 use Rattle.learn.specs.Ranges.{learnInRange}
@@ -48,11 +49,14 @@ pointsRefusal l bits len = if not (eqb len 124) || badBits bits then 4 else if l
 unfoldable pub pointsAnswer : Learn → ℕ → List ℤ → Pointed
 pointsAnswer l bits learned =
     let n = pointsRefusal l bits (length learned) in
-    if eqb n 0 then record { refusal = 0; learned = setLearned l bits } else record { refusal = n; learned = false }
+    if eqb n 0 then record { refusal = 0; learn = l; learned = setLearned l bits } else record { refusal = n; learn = l; learned = false }
 
 unfoldable pub pointsSlice : Learn → ℕ → List ℤ → List ℤ
 pointsSlice l bits learned = if eqb (pointsRefusal l bits (length learned)) 0 then learnedSlice l bits learned else learned
 
 -- ---- the noise figure: 6; "no noise figure before a sample"
-unfoldable pub figureAnswer : Learn → Figure
-figureAnswer l = if learnInRange l then if eqb (l .samples) 0 then None else Value (meanNoise l) else Refused 6
+abbrev pub figured : ℕ → Learn → Figure → Figured
+figured n l f = record { refusal = n; learn = l; figure = f }
+
+unfoldable pub figureAnswer : Learn → Figured
+figureAnswer l = if learnInRange l then if eqb (l .samples) 0 then figured 0 l None else figured 0 l (Value (meanNoise l)) else figured 6 l None

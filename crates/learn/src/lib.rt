@@ -25,6 +25,7 @@ pub struct Learned {
 // learned: the set's points are in the slice.
 pub struct Pointed {
     pub refusal: u8,
+    pub learn: Learn,
     pub learned: bool,
 }
 
@@ -32,7 +33,12 @@ pub struct Pointed {
 pub enum Figure {
     Value(i64),
     None,
-    Refused(u8),
+}
+
+pub struct Figured {
+    pub refusal: u8,
+    pub learn: Learn,
+    pub figure: Figure,
 }
 
 pub fn new() -> Learn
@@ -90,26 +96,40 @@ pub fn points(l: Learn, bits: usize, learned: &mut [i16]) -> Pointed
     if n == 0 {
         Pointed {
             refusal: 0,
+            learn: l,
             learned: ranged::pointed(l, bits, learned),
         }
     } else {
         Pointed {
             refusal: n,
+            learn: l,
             learned: false,
         }
     }
 }
 
-pub fn n0(l: Learn) -> Figure
+pub fn n0(l: Learn) -> Figured
     ensures { λ r. ⌜ r ≡ figureAnswer l ⌝ }
 {
     if ranges::in_range(l) {
         if l.samples == 0 {
-            Figure::None
+            Figured {
+                refusal: 0,
+                learn: l,
+                figure: Figure::None,
+            }
         } else {
-            Figure::Value(ranged::mean_noise(l))
+            Figured {
+                refusal: 0,
+                learn: l,
+                figure: Figure::Value(ranged::mean_noise(l)),
+            }
         }
     } else {
-        Figure::Refused(6)
+        Figured {
+            refusal: 6,
+            learn: l,
+            figure: Figure::None,
+        }
     }
 }

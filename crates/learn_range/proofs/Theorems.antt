@@ -25,12 +25,12 @@ use Rattle.demap.proofs.Theorems.{scale-theorem}
 use Rattle.demap.specs.Demap.{scaleOf}
 use Rattle.learn.proofs.Between.{mean-low, mean-high}
 use Rattle.learn.proofs.Laws.{labels-few, place-below, piloted-at, all-of, pilot-taken, noise-taken, points-taken}
-use Rattle.learn.specs.Answers.{badBest, pilotRefusal, pilotAnswer, noiseRefusal, noiseAnswer, pointsRefusal, pointsAnswer, pointsSlice, figureAnswer}
+use Rattle.learn.specs.Answers.{badBest, pilotRefusal, pilotAnswer, noiseRefusal, noiseAnswer, pointsRefusal, pointsAnswer, pointsSlice, figured, figureAnswer}
 use Rattle.learn.specs.Learning.{sumAt, countAt, newLearn, pilotedAt, allPiloted, setLearned, meanOf, meanAt, setMeans, learnedSlice, meanNoise}
 use Rattle.learn.specs.Ranges.{learnInRange}
 use Rattle.learn.specs.Sets.{Bits, badBits, placeOf, firstPlace, setStart, setSize, setOf}
-use Rattle.learn.specs.declared.Figure.{Figure}
-use Rattle.learn.specs.declared.Figure.the-variants.{Value, None, Refused}
+use Rattle.learn.specs.declared.Figured.{Figured}
+use Rattle.learn.specs.declared.Figure.the-variants.{Value, None}
 use Rattle.learn.specs.declared.Learn.{Learn}
 use Rattle.learn.specs.declared.Learned.{Learned}
 use Rattle.learn.specs.declared.Pointed.{Pointed}
@@ -102,17 +102,12 @@ points-6 l bits len e =
     if-both P (not (eqb len 124) || badBits bits) 4 _ (λ z. omega arith) (if-either P (learnInRange l) 0 6 (λ q z. omega arith) (λ q. absurd (never (sym e ∙ q))))
 
 -- the noise figure that is answered: the mean, if there is a sample
-pub figure-theorem : (l : Learn) → Coherent l → figureAnswer l ≡ (if eqb (l .samples) 0 then None else Value (meanNoise l))
+pub figure-theorem : (l : Learn) → Coherent l → figureAnswer l ≡ (if eqb (l .samples) 0 then figured 0 l None else figured 0 l (Value (meanNoise l)))
 unfolding figureAnswer
 figure-theorem l c = if-yes (learnInRange l) _ _ (coherent-in-range l c)
 
-abbrev refuses : Figure → Bool
-refuses (Value z) = false
-refuses None = false
-refuses (Refused n) = true
-
-not-refused : (t : Bool) (z : ℤ) → _≡_ {A = Figure} (if t then None else Value z) (Refused 6) → ⊥
-not-refused t z e = never (sym (ap refuses e) ∙ if-both (λ (x : Figure). refuses x ≡ false) t None (Value z) refl refl)
+figure-taken : (l : Learn) → Coherent l → figureAnswer l .refusal ≡ 0
+figure-taken l c = rw (figure-theorem l c) (if-both (λ (x : Figured). x .refusal ≡ 0) (eqb (l .samples) 0) (figured 0 l None) (figured 0 l (Value (meanNoise l))) refl refl)
 
 pub sound : (l : Learn) → Coherent l → Sound l
 unfolding pilotAnswer noiseAnswer pointsAnswer
@@ -124,7 +119,7 @@ sound l c =
       pilots = λ bits t zi zq. if-both (λ (x : Learned). x .refusal ≡ 6 → 31 < t) _ _ _ (λ z. omega arith) (pilot-6 l bits t e);
       noises = λ yi yq best. if-both (λ (x : Learned). x .refusal ≡ 6 → badBest best ≡ true) _ _ _ (λ z. absurd (taken z)) (noise-6 l best e);
       points = λ bits learned. if-both (λ (x : Pointed). x .refusal ≡ 6 → ⊥) _ _ _ (λ z. omega arith) (points-6 l bits (length learned) e);
-      figure = λ z. not-refused (eqb (l .samples) 0) (meanNoise l) (sym (figure-theorem l c) ∙ z);
+      figure = λ z. omega (arith, figure-taken l c, z);
     }
   where
     taken : _≡_ {A = ℕ} 0 6 → ⊥
@@ -396,7 +391,7 @@ pub force-theorem : (f : InForce) (l : Learn) (frame : ℕ) (learned nominal : L
 unfolding nextSlice nextAnswer renewedOf
 force-theorem f l frame learned nominal bits e h b =
     let t = eq-eqb (nextRefusal f l (length learned)) 0 e in
-    let r = if-yes {A = Renewed} (eqb (nextRefusal f l (length learned)) 0) (record { refusal = 0; «in_force» = renewedOf f l frame }) (record { refusal = nextRefusal f l (length learned); «in_force» = f }) t in
+    let r = if-yes {A = Renewed} (eqb (nextRefusal f l (length learned)) 0) (record { refusal = 0; «in_force» = renewedOf f l frame; learn = l }) (record { refusal = nextRefusal f l (length learned); «in_force» = f; learn = l }) t in
     let q = if-yes (eqb (nextRefusal f l (length learned)) 0) (slicesLearned l 5 learned) learned t in
     ap (λ (ys : List ℤ). pointsInForce ys nominal (nextAnswer f l frame learned .«in_force» .learned) bits) q
     ∙ ap (λ (x : Renewed). pointsInForce (slicesLearned l 5 learned) nominal (x .«in_force» .learned) bits) r

@@ -6,7 +6,6 @@ use Prim.Native.Nat.{ℕ, _<_}
 use lib.IntN.{ℤ}
 use Rattle.demap.specs.Demap.{scaleOf}
 use Rattle.learn.specs.declared.Learn.{Learn}
-use Rattle.learn.specs.declared.Figure.the-variants.{Refused}
 use Rattle.learn.specs.Answers.{badBest, pilotAnswer, noiseAnswer, pointsAnswer, figureAnswer}
 use Rattle.learn.specs.Learning.{newLearn}
 use Rattle.learn.specs.Ranges.{learnInRange}
@@ -47,7 +46,7 @@ pub record Sound (l : Learn) : Type 0 where
   pub pilots : (bits t : ℕ) (zi zq : ℤ) → pilotAnswer l bits t zi zq .refusal ≡ 6 → 31 < t
   pub noises : (yi yq best : ℤ) → noiseAnswer l yi yq best .refusal ≡ 6 → badBest best ≡ true
   pub points : (bits : ℕ) (learned : List ℤ) → pointsAnswer l bits learned .refusal ≡ 6 → ⊥
-  pub figure : figureAnswer l ≡ Refused 6 → ⊥
+  pub figure : figureAnswer l .refusal ≡ 6 → ⊥
 
 abbrev pub CallsKeep : Type 0
 CallsKeep = (cs : List Call) → CallsFit cs → Sound (learnAfter newLearn cs)

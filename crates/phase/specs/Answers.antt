@@ -18,7 +18,7 @@ use Rattle.phase.specs.declared.Due.the-variants.{Nothing}
 use Rattle.phase.specs.declared.Kept.{Kept}
 use Rattle.phase.specs.declared.Headed.{Headed}
 use Rattle.phase.specs.declared.Answered.{Answered}
-use Rattle.phase.specs.declared.Answered.the-variants.{Given, Refused}
+use Rattle.phase.specs.declared.Told.the-variants.{Given, Nothing as NoSymbol}
 use Rattle.phase.specs.Phase.{gainOf, begunOf, pushedOf, storedOf, dueOf, correctedOf}
 use Rattle.phase.specs.Ranges.{phaseInRange, wholeInRange}
 
@@ -72,4 +72,6 @@ correctRefusal s j table store =
 unfoldable pub correctAnswer : WholeSlot → ℕ → List ℤ → List ℤ → Answered
 correctAnswer s j table store =
     let n = correctRefusal s j (length table) (length store) in
-    if eqb n 0 then Given (correctedOf s table store j) else Refused n
+    if eqb n 0
+    then record { refusal = 0; slot = s; told = Given (correctedOf s table store j) }
+    else record { refusal = n; slot = s; told = NoSymbol }

@@ -50,9 +50,16 @@ pub struct Corrected {
     pub y: Symbol,
 }
 
-pub enum Answered {
+pub enum Told {
+    Nothing,
     Given(Corrected),
-    Refused(u8),
+}
+
+// A symbol of a slot, and the slot as it was handed in.
+pub struct Answered {
+    pub refusal: u8,
+    pub slot: WholeSlot,
+    pub told: Told,
 }
 
 pub struct Kept {
@@ -144,8 +151,16 @@ pub fn correct(s: WholeSlot, j: usize, table: &[i16], store: &[i16]) -> Answered
 {
     let n = refusals::correct(s, j, table.len(), store.len());
     if n == 0 {
-        Answered::Given(ranged::corrected(s, j, table, store))
+        Answered {
+            refusal: 0,
+            slot: s,
+            told: Told::Given(ranged::corrected(s, j, table, store)),
+        }
     } else {
-        Answered::Refused(n)
+        Answered {
+            refusal: n,
+            slot: s,
+            told: Told::Nothing,
+        }
     }
 }

@@ -18,7 +18,6 @@ use Rattle.phase.proofs.Laws.{push-taken, head-taken}
 use Rattle.phase.specs.Answers.{heldPast, pastEnd, placePast, pushRefusal, pushAnswer, pushStore, headRefusal, headAnswer, restartAnswer, correctRefusal, correctAnswer}
 use Rattle.phase.specs.Phase.{begunOf, pushedOf, storedOf, wholeOf, dueOf, symbolAt, correctedOf, storedIn, pushedIn, dueIn, countedIn}
 use Rattle.phase.specs.Ranges.{heldInRange, phaseInRange, wholeInRange, HeadOk, WholeOk}
-use Rattle.phase.specs.declared.Answered.the-variants.{Given, Refused}
 use Rattle.phase.specs.declared.Due.{Due}
 use Rattle.phase.specs.declared.Due.the-variants.{Nothing, Slot}
 use Rattle.phase.specs.declared.Headed.{Headed}
@@ -111,7 +110,7 @@ whole-given a h j table store oa oh l room k t u =
     let n = correctRefusal w j (length table) (length store) in
     let p = whole-place a h j room k in
     let e : n ≡ 0 = whole-taken w j (length table) (length store) (whole-in-range a h oa oh) p (whole-next a h l) k t u in
-    record { given = if-yes (eqb n 0) (Given (correctedOf w table store j)) (Refused n) (eq-eqb n 0 e); place = p }
+    record { given = if-yes (eqb n 0) _ _ (eq-eqb n 0 e); place = p }
 
 -- the slot of an answer
 abbrev isSlot : Due → Bool

@@ -7,14 +7,14 @@ use lib.ListN.{length, getD}
 use Rattle.angles.specs.declared.Symbol.{Symbol}
 use Rattle.sync_heads.specs.declared.Head.{Head}
 use Rattle.phase.specs.declared.WholeSlot.{WholeSlot}
-use Rattle.phase.specs.declared.Answered.the-variants.{Given}
+use Rattle.phase.specs.declared.Told.the-variants.{Given}
 use Rattle.phase.specs.Phase.{symbolAt, correctedOf}
 use Rattle.phase.specs.Answers.{correctAnswer}
 use Rattle.phase_range.specs.Calls.{At, at, held, pushedAll, AgreeOn}
 
--- symbol j of a slot is given, with a position below 2^62
+-- symbol j of a slot is given, with a position below 2^62, and the slot comes back
 pub record Givable (w : WholeSlot) (j : ℕ) (table store : List ℤ) : Type 0 where
-  pub given : correctAnswer w j table store ≡ Given (correctedOf w table store j)
+  pub given : correctAnswer w j table store ≡ record { refusal = 0; slot = w; told = Given (correctedOf w table store j) }
   pub place : w .head .at + j < 2 ^ 62
 
 -- symbol k of a list

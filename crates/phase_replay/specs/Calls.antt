@@ -56,4 +56,5 @@ nextCall p = let r = headAnswer (phaseOf p) (headOf p 13) in nextTold (r .refusa
 
 -- symbol number 16, with as many entries of table and store as numbers 17 and 18 say
 unfoldable pub correctCall : List ℕ → List ℤ → List ℤ → List ℕ
-correctCall p table store = answeredTold (correctAnswer (wholeOf p) (at p 16) (take (at p 17) table) (take (at p 18) store))
+correctCall p table store =
+    let a = correctAnswer (wholeOf p) (at p 16) (take (at p 17) table) (take (at p 18) store) in answeredTold (a .refusal) (a .told)

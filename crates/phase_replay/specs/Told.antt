@@ -7,8 +7,8 @@ use Rattle.fx.specs.declared.Whole.the-variants.{Value, Refused as WholeRefused
 use Rattle.phase.specs.declared.Due.{Due}
 use Rattle.phase.specs.declared.Due.the-variants.{Nothing, Slot as DueSlot}
 use Rattle.phase.specs.declared.Corrected.{Corrected}
-use Rattle.phase.specs.declared.Answered.{Answered}
-use Rattle.phase.specs.declared.Answered.the-variants.{Given, Refused}
+use Rattle.phase.specs.declared.Told.{Told}
+use Rattle.phase.specs.declared.Told.the-variants.{Given, Nothing as NoSymbol}
 use Rattle.wire.specs.Wire.{bits}
 use Rattle.fields.specs.Fields.{fourTold}
 use Rattle.slot_wire.specs.Slots.{wordNumber, slotShown}
@@ -48,6 +48,6 @@ correctedTold c =
     ∷ [])
     ++ replicate 11 0
 
-unfoldable pub answeredTold : Answered → List ℕ
-answeredTold (Given c) = correctedTold c
-answeredTold (Refused n) = fourTold n 0 0 0
+unfoldable pub answeredTold : ℕ → Told → List ℕ
+answeredTold refusal NoSymbol = fourTold refusal 0 0 0
+answeredTold refusal (Given c) = correctedTold c

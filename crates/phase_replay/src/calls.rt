@@ -112,7 +112,8 @@ pub(crate) fn correct(p: &[u64; 24], table: &[i16], store: &[i16]) -> [u64; 24]
     let l = fields::least(p[18], store.len());
     let j = index(p[16]);
     let a = phase::correct(s, j, &table[..k], &store[..l]);
-    told::answered(a)
+    let t = a.told;
+    told::answered(a.refusal, t)
 }
 
 fn index(n: u64) -> usize

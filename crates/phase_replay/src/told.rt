@@ -1,8 +1,8 @@
 // Answers as 24 numbers: the refusal, the answer's numbers, and zeros behind them. A negative number is 2^64 more.
 use fx::Whole;
-use phase::Answered;
 use phase::Corrected;
 use phase::Due;
+use phase::Told;
 ghost use mathlib.Core.Path.{_≡_};
 ghost use Rattle.phase_replay.specs.Told.{dueTold, nextTold, wholeTold, correctedTold, answeredTold};
 
@@ -83,11 +83,12 @@ fn corrected(c: Corrected) -> [u64; 24]
     ]
 }
 
-pub(crate) fn answered(a: Answered) -> [u64; 24]
-    ensures { λ r. ⌜ r ≡ answeredTold a ⌝ }
+// Nothing is told of a refused symbol but the number.
+pub(crate) fn answered(refusal: u8, t: Told) -> [u64; 24]
+    ensures { λ r. ⌜ r ≡ answeredTold refusal t ⌝ }
 {
-    match a {
-        Answered::Given(c) => corrected(c),
-        Answered::Refused(n) => fields::four(n, 0, 0, 0),
+    match t {
+        Told::Nothing => fields::four(refusal, 0, 0, 0),
+        Told::Given(c) => corrected(c),
     }
 }

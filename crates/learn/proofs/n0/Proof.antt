@@ -2,10 +2,11 @@
 use mathlib.Core.Path.{sym, ap, _∙_}
 use native.Mathlib.Omega.{arith}
 use borrow.Author.Needs.{needs}
+use lib.IntN.{ℤ}
 use mir.Syntax.{w64}
 use Rattle.laws.proofs.Size.{back}
 use Rattle.laws.specs.Choice.{cases}
-use Rattle.learn.specs.Answers.{figureAnswer}
+use Rattle.learn.specs.Answers.{figured, figureAnswer}
 use Rattle.learn.specs.declared.Figure.the-variants.{Value}
 use Rattle.learn.proofs.Laws.{learn-ok}
 use Rattle.learn.proofs.n0.Statement.{statement}
@@ -27,7 +28,7 @@ returns-2 : tie.Need-returns-2
 unfolding figureAnswer
 returns-2 c =
     let q = c .mean-noise in
-    ap Value (back w64 (q .result) (q .ok) ∙ q .ensures .0) ∙ rw (← (c .before .before .before .before .in-range .ensures)) (search cases)
+    ap (λ (z : ℤ). figured 0 (c .before .before .before .before .before .args .l) (Value z)) (back w64 (q .result) (q .ok) ∙ q .ensures .0) ∙ rw (← (c .before .before .before .before .in-range .ensures)) (search cases)
 
 returns-3 : tie.Need-returns-3
 unfolding figureAnswer

@@ -22,12 +22,6 @@ enum-told c = search needs
 single-requires-2 : tie.Need-single-requires-2
 single-requires-2 c κs = search needs
 
-enum-known-f-2 : tie.Need-enum-known-f-2
-enum-known-f-2 c = search needs
-
-single-requires-3 : tie.Need-single-requires-3
-single-requires-3 c κs = search needs
-
 returns : tie.Need-returns
 unfolding figureTold
 returns c =
@@ -38,10 +32,6 @@ returns-2 : tie.Need-returns-2
 unfolding figureTold
 returns-2 c = rw (c .before .enum-told .given .1, c .single2 .ensures)
 
-returns-3 : tie.Need-returns-3
-unfolding figureTold
-returns-3 c = rw (c .before .before .f2 .given .1, c .single3 .ensures)
-
 pub figure-spec : {M : Type 1} → statement M
 figure-spec =
     tie.close
@@ -51,8 +41,5 @@ figure-spec =
     single-requires
     enum-told
     single-requires-2
-    enum-known-f-2
-    single-requires-3
     returns
-    returns-2
-    returns-3)
+    returns-2)
