@@ -116,8 +116,8 @@ pub(crate) fn part<'a>(k: Kept, p: &[u64; 24], learned: &'a [i16], nominal: &'a 
     let bits = index(p[1]);
     let a = fields::least(p[2], learned.len());
     let b = fields::least(p[3], nominal.len());
-    let refusal = in_force::sets_refusal(a, b, bits);
-    let points = in_force::points_in_force(&learned[..a], &nominal[..b], flags, bits);
+    let refusal = in_force::plain::sets_refusal(a, b, bits);
+    let points = in_force::plain::part(&learned[..a], &nominal[..b], flags, bits);
     told::single(refusal, points.len() as u64, digest::of_i16(points))
 }
 

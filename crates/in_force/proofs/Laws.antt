@@ -1,23 +1,24 @@
 -- Laws of the definitions of in_force that its proofs cite: what is known where nothing refuses. Assumes nothing.
 use mathlib.Core.Bool.{Bool, true, false, not, _&&_, _||_}
-use mathlib.Core.List.{List}
-use mathlib.Core.Path.{_≡_, refl, sym}
+use mathlib.Core.List.{List, []}
+use mathlib.Core.Path.{_≡_, refl, sym, _∙_}
 use Prim.Native.Nat.{ℕ, _+_, _-_, _*_, _^_, _≤_}
 use native.Mathlib.Numerals.{add-one}
 use native.Mathlib.Omega.{arith}
-use borrow.Author.Tests.{eqb-true, eq-eqb}
+use borrow.Author.Tests.{eqb-true, eq-eqb, ne-eqb}
 use lib.Dec.{eqb}
 use lib.IntN.{ℤ, pos, natAbs}
 use lib.ListN.{length, getD, take, drop}
 use lib.Signed.{leZ}
-use Rattle.laws.proofs.Tests.{and-both, neither}
-use Rattle.laws.specs.Choice.{if_then_else_, if-yes, minus}
-use Rattle.learn.proofs.Laws.{between, no-0, yes-0, not-false, good-bits, learn-ok}
+use Rattle.demap.proofs.Blocks.{part-long}
+use Rattle.laws.proofs.Tests.{and-both, by-test, if-both, neither, never}
+use Rattle.laws.specs.Choice.{if_then_else_, if-yes, if-no, minus}
+use Rattle.learn.proofs.Laws.{between, no-0, yes-0, not-false, good-bits, labels-few, learn-ok}
 use Rattle.learn.specs.Learning.{learnedSlice}
 use Rattle.learn.specs.Ranges.{learnInRange, LearnOk}
 use Rattle.learn.specs.Sets.{Bits, badBits, setOf}
 use Rattle.learn.specs.declared.Learn.{Learn}
-use Rattle.in_force.specs.Answers.{nextRefusal, setsRefusal, pointsInForce}
+use Rattle.in_force.specs.Answers.{nextRefusal, setsRefusal, pointsInForce, emptyRefusal}
 use Rattle.in_force.specs.InForce.{slicesLearned, forceInRange}
 use Rattle.in_force.specs.declared.InForce.{InForce}
 
@@ -81,3 +82,31 @@ sets-taken learned nominal bits e =
       nominal-long = eqb-true nominal 124 (not-false (eqb nominal 124) (q .0));
       bits-ok = good-bits bits (q .1);
     }
+
+-- ---- a part is empty exactly where it was refused: a set has at least four numbers
+part-some : (bits : ℕ) (xs : List ℤ) → Bits bits → length xs ≡ 124 → 1 ≤ length (setOf bits xs)
+unfolding setOf
+part-some bits xs b h =
+    let m = labels-few bits b in
+    let e = part-long (2 * (2 ^ bits - 2)) (2 * 2 ^ bits) xs (omega (arith, m, h)) in
+    omega (arith, e, m)
+
+refused-4 : (m n bits : ℕ) → eqb (setsRefusal m n bits) 0 ≡ false → setsRefusal m n bits ≡ 4
+unfolding setsRefusal
+refused-4 m n bits t =
+    let w = not (eqb m 124) || (not (eqb n 124) || badBits bits) in
+    by-test w (λ y. if-yes w 4 0 y) (λ y. absurd (never (sym (eq-eqb _ 0 (if-no w 4 0 y)) ∙ t)))
+
+pub refused-empty : (learned nominal : List ℤ) (flags : List Bool) (bits : ℕ) →
+    emptyRefusal (pointsInForce learned nominal flags bits) ≡ setsRefusal (length learned) (length nominal) bits
+unfolding pointsInForce emptyRefusal
+refused-empty learned nominal flags bits =
+    let n = setsRefusal (length learned) (length nominal) bits in
+    let part : List ℤ = setOf bits (if getD flags (bits - 1) false then learned else nominal) in
+    by-test (eqb n 0)
+    (λ t.
+    let z = eqb-true n 0 t in
+    let k = sets-taken (length learned) (length nominal) bits z in
+    let l : 1 ≤ length part = if-both (λ (xs : List ℤ). 1 ≤ length (setOf bits xs)) (getD flags (bits - 1) false) learned nominal (part-some bits learned (k .bits-ok) (k .learned-long)) (part-some bits nominal (k .bits-ok) (k .nominal-long)) in
+    rw (if-yes _ part [] t) (if-no _ 4 0 (ne-eqb (length part) 0 (λ e. omega (arith, e, l))) ∙ sym z))
+    (λ t. rw (if-no _ part [] t) (if-yes _ 4 0 refl ∙ sym (refused-4 (length learned) (length nominal) bits t)))

@@ -33,3 +33,7 @@ setsRefusal learned nominal bits = if not (eqb learned 124) || (not (eqb nominal
 unfoldable pub pointsInForce : List ℤ → List ℤ → List Bool → ℕ → List ℤ
 pointsInForce learned nominal flags bits =
     if eqb (setsRefusal (length learned) (length nominal) bits) 0 then setOf bits (if getD flags (bits - 1) false then learned else nominal) else []
+
+-- the refusal of a part that was chosen so: an empty one was refused (proofs/Laws.antt, `refused-empty`)
+unfoldable pub emptyRefusal : List ℤ → ℕ
+emptyRefusal points = if eqb (length points) 0 then 4 else 0

@@ -6,6 +6,7 @@ mod refusals;
 
 use learn::Learn;
 ghost use mathlib.Core.Path.{_≡_};
+ghost use lib.ListN.{length};
 ghost use Rattle.in_force.specs.InForce.{defaultForce};
 ghost use Rattle.in_force.specs.Answers.{nextAnswer, nextSlice, setsRefusal, pointsInForce};
 
@@ -60,36 +61,23 @@ pub fn next(f: InForce, l: Learn, frame: u32, learned: &mut [i16]) -> Renewed
     }
 }
 
-// 0, or why there are no points of so many bits in slices of these lengths.
-pub fn sets_refusal(learned: usize, nominal: usize, bits: usize) -> u8
-    ensures { λ r. ⌜ r ≡ setsRefusal learned nominal bits ⌝ }
-{
-    if (learned != 124) | ((nominal != 124) | ((bits < 1) | (5 < bits))) {
-        4
-    } else {
-        0
-    }
+// The points of a set: a part of one of the two slices, not copied. Where they are refused the part is empty.
+pub struct Chosen<'a> {
+    pub points: &'a [i16],
+    pub refusal: u8,
 }
 
-// The points of a set: a part of one of the two slices. A set has at least four numbers, so an empty part is a refusal, whose number is
-// `sets_refusal`.
 pub fn points_in_force<'a>(
     learned: &'a [i16],
     nominal: &'a [i16],
     flags: [bool; 5],
     bits: usize,
-) -> &'a [i16]
-    ensures { λ r. ⌜ now r ≡ pointsInForce (now (learned .entry)) (now (nominal .entry)) flags bits ⌝ }
+) -> Chosen<'a>
+    ensures { λ r. ⌜ (now (r .points) ≡ pointsInForce (now (learned .entry)) (now (nominal .entry)) flags bits) × (r .refusal ≡ setsRefusal (length (now (learned .entry))) (length (now (nominal .entry))) bits) ⌝ }
 {
-    if sets_refusal(learned.len(), nominal.len(), bits) != 0 {
-        return &nominal[0..0];
-    }
-    let n = learn::ranged::labels(bits);
-    let s = 2 * (n - 2);
-    let e = s + 2 * n;
-    if flags[bits - 1] {
-        &learned[s..e]
-    } else {
-        &nominal[s..e]
+    let p = plain::part(learned, nominal, flags, bits);
+    Chosen {
+        points: p,
+        refusal: plain::refusal(p),
     }
 }

@@ -28,14 +28,14 @@ least-requires-2 c κs = search needs
 sets-refusal-requires : tie.Need-sets-refusal-requires
 sets-refusal-requires c κs = search needs
 
-slice-aggregate-points-in-force : tie.Need-slice-aggregate-points-in-force
-slice-aggregate-points-in-force c = sym (length-take-le _ _ (search needs))
+slice-aggregate-part : tie.Need-slice-aggregate-part
+slice-aggregate-part c = sym (length-take-le _ _ (search needs))
 
-slice-aggregate-points-in-force-2 : tie.Need-slice-aggregate-points-in-force-2
-slice-aggregate-points-in-force-2 c = sym (length-take-le _ _ (search needs))
+slice-aggregate-part-2 : tie.Need-slice-aggregate-part-2
+slice-aggregate-part-2 c = sym (length-take-le _ _ (search needs))
 
-points-in-force-requires : tie.Need-points-in-force-requires
-points-in-force-requires c κs = search needs
+part-requires : tie.Need-part-requires
+part-requires c κs = search needs
 
 of-i16-requires : tie.Need-of-i16-requires
 of-i16-requires c κs = search needs
@@ -51,7 +51,7 @@ returns c =
     let m = c .before .before .before .before .before .before .least2 in
     let i = c .before .before .before .before .before .before .before .before .before .before .index in
     let q = rw (n .ensures .0, m .ensures .0, least-length _ (a .learned .now), least-length _ (a .nominal .now), i .ensures) at (c .before .before .before .before .before .sets-refusal .ensures) in
-    let e = rw (n .ensures .0, m .ensures .0, take-least _ (a .learned .now), take-least _ (a .nominal .now), i .ensures) at (c .before .before .points-in-force .ensures) in
+    let e = rw (n .ensures .0, m .ensures .0, take-least _ (a .learned .now), take-least _ (a .nominal .now), i .ensures) at (c .before .before .part .ensures) in
     rw (c .single .ensures, c .before .of-i16 .ensures, q, e)
 
 pub part-spec : {M : Type 1} → statement M
@@ -65,9 +65,9 @@ part-spec =
     element-copy-out-least-2
     least-requires-2
     sets-refusal-requires
-    slice-aggregate-points-in-force
-    slice-aggregate-points-in-force-2
-    points-in-force-requires
+    slice-aggregate-part
+    slice-aggregate-part-2
+    part-requires
     of-i16-requires
     single-requires
     returns)

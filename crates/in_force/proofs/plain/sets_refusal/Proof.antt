@@ -1,8 +1,8 @@
--- `in_force::sets_refusal` meets its contract. Assumes nothing.
+-- `in_force::plain::sets_refusal` meets its contract. Assumes nothing.
 use Rattle.laws.specs.Choice.{cases}
 use Rattle.in_force.specs.Answers.{setsRefusal}
-use Rattle.in_force.proofs.sets_refusal.Statement.{statement}
-use Rattle.in_force.proofs.sets_refusal.Tie as tie
+use Rattle.in_force.proofs.plain.sets_refusal.Statement.{statement}
+use Rattle.in_force.proofs.plain.sets_refusal.Tie as tie
 
 returns : tie.Need-returns
 unfolding setsRefusal
