@@ -35,6 +35,7 @@ pub enum Figure {
     None,
 }
 
+// The figure, and what was learned as it was handed in.
 pub struct Figured {
     pub refusal: u8,
     pub learn: Learn,

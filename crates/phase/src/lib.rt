@@ -50,6 +50,7 @@ pub struct Corrected {
     pub y: Symbol,
 }
 
+// The symbol, if it is not refused.
 pub enum Told {
     Nothing,
     Given(Corrected),
