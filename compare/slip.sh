@@ -57,8 +57,8 @@ for part; do
         phase) find_all phase phase_stand_in.rs 25 ;;
         demap) find_all demap soft.rs 9 && find_all demap demap_stand_in.rs 23 ;;
         eq) find_all eq eq_stand_in.rs 26 ;;
-        frame) find_all frame place.rs 4 && find_all frame frame_stand_in.rs 30 ;;
-        receiver) find_all receiver receiver_stand_in.rs 52 ;;
+        frame) find_all frame place.rs 4 && find_all frame frame_stand_in.rs 32 ;;
+        receiver) find_all receiver receiver_stand_in.rs 63 ;;
         *) echo "usage: slip.sh [fx] [sync] [phase] [demap] [eq] [frame] [receiver]" >&2; exit 2 ;;
     esac
 done

@@ -7,7 +7,7 @@ use cases::frame::model::{Rules, RULES, TOP, WIDE};
 use cases::stage::{serve, slipped};
 
 /// Each slip: its name (slip.sh reads it), and what it does to the rules.
-const SLIPS: [(&str, fn(&mut Rules)); 30] = [
+const SLIPS: [(&str, fn(&mut Rules)); 32] = [
     ("four_late", |r| r.late = 4),
     ("six_late", |r| r.late = 6),
     ("newest_word", |r| r.own_word = false),
@@ -28,6 +28,8 @@ const SLIPS: [(&str, fn(&mut Rules)); 30] = [
     ("restart_drops_the_taps", |r| r.eq.restart_keeps_taps = false),
     ("index_9296_taken", |r| r.places = 9_297),
     ("index_9295_refused", |r| r.places = 9_295),
+    ("place_below_its_index_taken", |r| r.adjoin = -1),
+    ("place_at_its_index_refused", |r| r.adjoin = 1),
     ("position_2_62_taken", |r| r.top = TOP + 1),
     ("last_position_refused", |r| r.top = TOP - 1),
     ("gain_over_2_60_taken", |r| r.wide = WIDE + 1),

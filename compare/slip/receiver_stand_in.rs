@@ -7,7 +7,7 @@ use cases::receiver::model::{Rules, Spoils, RULES};
 use cases::stage::{serve, slipped};
 
 /// Each slip: its name (slip.sh reads it), and what it does to the rules.
-const SLIPS: [(&str, fn(&mut Rules)); 52] = [
+const SLIPS: [(&str, fn(&mut Rules)); 63] = [
     ("rotated_toward_zero", |r| r.phase.rounds_down = false),
     ("phase_advanced_first", |r| r.phase.turns_first = false),
     ("second_event_first", |r| r.in_order = false),
@@ -33,6 +33,10 @@ const SLIPS: [(&str, fn(&mut Rules)); 52] = [
     ("soft_buffer_of_44879_taken", |r| r.soft = 44_879),
     // ranges
     ("carrier_of_60_differences_taken", |r| r.phase.most += 1),
+    ("odd_angle_of_the_carrier_taken", |r| r.ends.last_angle = 1),
+    ("odd_angle_of_a_head_taken", |r| r.ends.head_angle = 1),
+    ("sum_of_differences_one_too_great_taken", |r| r.ends.turned[1] += 1),
+    ("sum_of_differences_one_too_low_taken", |r| r.ends.turned[0] -= 1),
     ("window_of_4097_taken", |r| r.ends.window += 1),
     ("peak_past_its_range_taken", |r| r.ends.peak += 1),
     ("sum_past_its_range_taken", |r| r.ends.sum += 1),
@@ -41,6 +45,13 @@ const SLIPS: [(&str, fn(&mut Rules)); 52] = [
     ("head_size_of_179131_taken", |r| r.ends.amp += 1),
     ("slot_of_no_symbol_taken", |r| r.ends.held -= 1),
     ("last_position_past_its_range_taken", |r| r.ends.last += 1),
+    ("count_of_4194289_taken", |r| r.ends.count += 1),
+    ("count_of_4194288_refused", |r| r.ends.count -= 1),
+    ("diagonal_entry_past_its_range_taken", |r| r.ends.square += 1),
+    ("entry_past_its_range_taken", |r| r.ends.product[1] += 1),
+    ("entry_below_its_range_taken", |r| r.ends.product[0] -= 1),
+    ("imaginary_part_past_its_range_taken", |r| r.ends.turn += 1),
+    ("right_hand_entry_of_4194289_trainings_taken", |r| r.ends.right_hand += 47_448_064),
     ("right_hand_entry_past_its_range_taken", |r| r.ends.right_hand += 1),
     ("k_past_its_range_taken", |r| r.ends.k += 1),
     ("window_of_4096_refused", |r| r.ends.window -= 1),

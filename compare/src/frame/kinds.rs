@@ -255,8 +255,8 @@ fn hand_in(p: &mut Player, r: &mut Random) {
     ] {
         p.refused(Call::Eq(call), 0);
     }
-    for _ in 0..5 {
-        let at = any_position(r);
+    for k in 0..5 {
+        let at = if r.below(8) == 0 { k } else { any_position(r).max(k) };
         p.refused(Call::MoveUp(any_corrected(r, at)), 0);
     }
     let last = (r.below(4) != 0).then(|| any_position(r));
@@ -310,7 +310,11 @@ fn out_of_range(p: &mut Player, r: &mut Random, turn: u64) {
         _ => {
             let wrong = r.below(5) as usize;
             for (k, place) in line.places.iter().enumerate() {
-                let bad = if r.below(2) == 0 { (TOP, place.j) } else { (place.at, 9_296) };
+                let bad = match r.below(3) {
+                    0 => (TOP, place.j),
+                    1 if k > 0 => (k as u64 - 1, place.j),
+                    _ => (place.at, 9_296),
+                };
                 let (at, j) = if k == wrong { bad } else { (place.at, place.j) };
                 p.refused(Call::MoveUp(Corrected { at, j, ..*place }), 0);
             }

@@ -40,6 +40,8 @@ pub struct Rules {
     /// A restart forgets the last position.
     pub restart_forgets: bool,
     pub places: u16,
+    /// Symbols that wait adjoin, so that of place k stands at position k or later.
+    pub adjoin: i128,
     pub top: u64,
     pub wide: u64,
     /// A full count is refused only where there would be a training: not for a gap, not for other symbols.
@@ -69,6 +71,7 @@ pub const RULES: Rules = Rules {
     gap_drops_sums: true,
     restart_forgets: true,
     places: 9_296,
+    adjoin: 0,
     top: TOP,
     wide: WIDE,
     full_after_gap: true,
@@ -112,10 +115,12 @@ impl Rules {
 
     pub fn in_range(&self, e: &Equaliser, line: &Line) -> bool {
         let seen = if self.behind_unseen { line.count as usize } else { self.late };
-        let waits = |p: &Corrected| p.at < self.top && p.j < self.places;
+        let waits = |(k, p): (i128, &Corrected)| {
+            i128::from(p.at) >= k + self.adjoin && p.at < self.top && p.j < self.places
+        };
         self.eq.in_range(e)
             && line.count as usize <= self.late
-            && line.places.iter().take(seen).all(waits)
+            && (0..).zip(line.places.iter().take(seen)).all(waits)
             && line.last.is_none_or(|at| at < self.top)
     }
 

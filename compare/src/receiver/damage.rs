@@ -5,7 +5,7 @@ use super::kinds::{any_call, any_signal, any_taps, load};
 use super::misfits::{any_receiver, places};
 use super::model::Receiver;
 use super::player::Player;
-use super::ranges::END;
+use super::ranges::{END, TRAININGS};
 use super::signal::SLOT;
 use crate::eq::calls::Sums;
 use crate::eq::model::{no_sums, DIAGONAL};
@@ -27,28 +27,32 @@ type Alter = fn(&mut Receiver, usize, i128);
 type Number = (&'static str, Alter, &'static [i128], &'static [i128]);
 
 const ANY: &[i128] = &[0, 1, U32 - 1, U32];
+const EVEN: &[i128] = &[0, U32 - 1, 2, U32 - 3, 1 << 31];
+const ODD: &[i128] = &[1, U32, 3, U32 - 2, (1 << 31) + 1];
 const PARTS: &[i128] = &[-98_328, 98_328, -98_327, 98_327];
 const NO_PARTS: &[i128] = &[-98_329, 98_329, 1_572_864, I32[0], I32[1]];
 const SLOTS: &[i128] = &[0, 119, 1, 118];
 const NO_SLOTS: &[i128] = &[120, 121, 255];
 const PLACES: &[i128] = &[0, 9_295, 1, 9_294];
 const NO_PLACES: &[i128] = &[9_296, 9_297, 65_535];
-const SQUARES: &[i128] = &[0, 1 << 53, 1, (1 << 53) - 1];
-const PRODUCTS: &[i128] = &[-LEAST, 1 << 53, -LEAST + 1, (1 << 53) - 1];
+const SQUARES: &[i128] = &[0, SQUARE, 1, SQUARE - 1];
+const PRODUCTS: &[i128] = &[-LEAST, SQUARE, -LEAST + 1, SQUARE - 1];
 const TURNS: &[i128] = &[-TURN, TURN, -TURN + 1, TURN - 1];
-const LEAST: i128 = (1 << 53) - (1 << 38);
-const TURN: i128 = (1 << 53) - (1 << 37);
-const RIGHT_HAND: i128 = 199_011_604_627_456;
+/// Those of one training, so many times.
+const SQUARE: i128 = TRAININGS as i128 * 2_147_483_648;
+const LEAST: i128 = TRAININGS as i128 * 2_147_418_112;
+const TURN: i128 = TRAININGS as i128 * 2_147_450_880;
+const RIGHT_HAND: i128 = TRAININGS as i128 * 47_448_064;
 
 const CARRIER: [Number; 5] = [
     ("phase", |x, _, v| x.nco.phase = v as u32, ANY, &[]),
     ("step", |x, _, v| x.nco.freq = v as i32, &[I32[0], I32[1], 0, -1], &[]),
-    ("last angle", |x, _, v| trail(x).last = v as u32, ANY, &[]),
+    ("last angle", |x, _, v| trail(x).last = v as u32, EVEN, ODD),
     (
         "sum of differences",
         |x, _, v| trail(x).sum = v as i64,
-        &[-126_701_535_232, 126_701_535_173, -126_701_535_231, 126_701_535_172],
-        &[-126_701_535_233, 126_701_535_174, I64[0], I64[1]],
+        &[-126_701_535_232, 126_701_535_114, -126_701_535_231, 126_701_535_113],
+        &[-126_701_535_233, 126_701_535_115, 126_701_535_173, I64[0], I64[1]],
     ),
     ("differences", |x, _, v| trail(x).steps = v as u32, &[0, 59, 1, 58], &[60, 61, U32]),
 ];
@@ -112,7 +116,7 @@ const PHASE: [Number; 8] = [
         &[46_480, TOP - 24, 46_481, TOP - 25],
         &[46_479, TOP - 23, TOP - 1, 0, U64],
     ),
-    ("slot: angle", |x, _, v| held(x).head.theta = v as u32, ANY, &[]),
+    ("slot: angle", |x, _, v| held(x).head.theta = v as u32, EVEN, ODD),
     (
         "slot: size",
         |x, _, v| held(x).head.amp = v as i64,
@@ -150,19 +154,24 @@ const BACK: [Number; 16] = [
         &[55_774, TOP - 24, 0, U64],
     ),
     ("fill", |x, _, v| x.eq.filled = v as u32, &[0, 11], &[1, 5, 6, 10, 12, U32]),
-    ("training count", |x, _, v| sums(x).count = v as u32, &[0, 4_194_304, 1, 4_194_303], &[4_194_305, U32]),
+    (
+        "training count",
+        |x, _, v| sums(x).count = v as u32,
+        &[0, 4_194_288, 1, 4_194_287],
+        &[4_194_289, 4_194_304, 4_194_305, U32],
+    ),
     (
         "diagonal: re",
         |x, k, v| sums(x).r[2 * DIAGONAL[k % 11]] = v as i64,
         SQUARES,
-        &[-1, (1 << 53) + 1, I64[0], I64[1]],
+        &[-1, SQUARE + 1, 1 << 53, I64[0], I64[1]],
     ),
     ("diagonal: im", |x, k, v| sums(x).r[2 * DIAGONAL[k % 11] + 1] = v as i64, &[0], &[-1, 1, I64[0], I64[1]]),
     (
         "off it: re",
         |x, k, v| sums(x).r[2 * off_diagonal(k)] = v as i64,
         PRODUCTS,
-        &[-LEAST - 1, (1 << 53) + 1, I64[0], I64[1]],
+        &[-LEAST - 1, SQUARE + 1, 1 << 53, I64[0], I64[1]],
     ),
     (
         "off it: im",
@@ -188,7 +197,7 @@ pub fn numbers() -> impl Iterator<Item = &'static Number> {
 // ---- what has to be there for a number to be looked at
 
 fn trail(x: &mut Receiver) -> &mut Steps {
-    x.nco.trail.get_or_insert(Steps { last: 5, sum: -6, steps: 7 })
+    x.nco.trail.get_or_insert(Steps { last: 6, sum: -6, steps: 7 })
 }
 
 fn held_head(x: &mut Receiver, alter: impl Fn(&mut Reading)) {
@@ -204,7 +213,7 @@ fn last_ssync(x: &mut Receiver, k: usize, v: i128) {
 }
 
 fn held(x: &mut Receiver) -> &mut Held {
-    let head = Head { at: 50_000, word: Word::Fsync, theta: 9, amp: 900, slot: None, corr: [5, -900], nco_phase: 0 };
+    let head = Head { at: 50_000, word: Word::Fsync, theta: 8, amp: 900, slot: None, corr: [5, -900], nco_phase: 0 };
     x.phase.get_or_insert(Held { head, count: 77 })
 }
 

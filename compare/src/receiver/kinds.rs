@@ -468,31 +468,44 @@ fn counted(p: &mut Player, count: impl FnOnce(u32) -> u32) {
     p.hand_in(&x);
 }
 
-/// A training count at its limit: a slot makes 24 trainings, or 5 fewer if it is the first. It is all of them or none.
+/// Counts that no calls leave.
+fn too_many(p: &mut Player) {
+    for count in [4_194_289, 4_194_304, u32::MAX] {
+        counted(p, |_| count);
+        p.refuses([3, -4], 6);
+        p.refused(Call::End, 6);
+    }
+}
+
+/// A training count at its limit: a slot makes 24 trainings, or 5 fewer if it is the first. It is all of them or none. So calls leave 4,194,288 at
+/// most, and a greater count is 6, handed in or left by a slot whose count was one that calls do not leave.
 fn full_sums(p: &mut Player, r: &mut Random, size: Size) {
     const LIMIT: u32 = 4_194_304;
-    for spare in [0, 1, 18, 19, 23, 24, 25].into_iter().take(times(size, [0, 4, 7]) as usize) {
+    for spare in [16, 23, 24, 40, 21, 25, 17, 39].into_iter().take(times(size, [0, 4, 8]) as usize) {
         let mut signal = Signal::new(standard(), 50.0, 1);
         (signal.noise, signal.payload, signal.slot) = (1, 0.5, 3);
         p.start(&signal.words, &cosine_table(), 1 << 33, 0);
         load(p, 1, 90_000);
         let mut slots = 0;
         let mut refused = 0;
+        // full for the next slot; or it is taken, and the count behind it is full, or out of range
+        let full = if (24..40).contains(&spare) { 6 } else { 8 };
         // up to the slot that finds them full
         for _ in 0..(9 + spare / 24) * SLOT {
             let answer = p.push(signal.next(r));
             slots += u32::from(answer.corrected > 0);
             if answer.corrected > 0 && slots == 2 {
                 p.refused(Call::Open(5), 0);
+                too_many(p);
                 counted(p, |_| LIMIT - spare);
             }
             if answer.refusal != 0 {
-                assert_eq!(answer.refusal, 8);
+                assert_eq!(answer.refusal, full);
                 refused += 1;
                 p.look();
                 // nothing has changed: the same symbol is refused again, and taken once there is room
                 let x = signal.next(r);
-                p.refuses(x, 8);
+                p.refuses(x, full);
                 counted(p, |n| n - 100);
                 p.refuses(x, 0);
             }

@@ -7,9 +7,9 @@ use super::player::{Player, Told};
 use super::ranges::{END, ENDS};
 use super::signal::SLOT;
 use crate::demap::soft::any_points;
-use crate::eq::calls::Equaliser;
+use crate::eq::calls::{Equaliser, Sums};
 use crate::eq::kinds::any_state as any_equaliser;
-use crate::eq::model::LIMIT;
+use crate::eq::model::{upper, LIMIT};
 use crate::frame::calls::Ones;
 use crate::frame::model::Line;
 use crate::inputs::{cosine_table, pick, times, Random, Size};
@@ -27,12 +27,17 @@ fn any_slot(r: &mut Random) -> Option<(u8, u32)> {
     (r.below(3) != 0).then(|| (between(r, 0, 119) as u8, between(r, 0, u32::MAX.into()) as u32))
 }
 
+/// Of the CORDIC: an even number.
+fn any_angle(r: &mut Random) -> u32 {
+    r.next() as u32 & !1
+}
+
 /// Differences without a sum, a sum without differences.
 fn any_nco(r: &mut Random) -> Nco {
     let any = r.next();
-    let sum = between(r, 0, 253_403_070_405) as i64 - 126_701_535_232;
+    let sum = between(r, 0, ENDS.turned[0].abs_diff(ENDS.turned[1])) as i64 + ENDS.turned[0];
     let steps = between(r, 0, 59) as u32;
-    let trail = Steps { last: r.next() as u32, sum: pick(r, &[0, sum, sum]), steps: pick(r, &[59, steps]) };
+    let trail = Steps { last: any_angle(r), sum: pick(r, &[0, sum, sum]), steps: pick(r, &[59, steps]) };
     Nco {
         phase: r.next() as u32,
         freq: pick(r, &[any as i32, 0, 1_000, i32::MIN, i32::MAX]),
@@ -116,7 +121,7 @@ fn any_phase(s: &State, r: &mut Random) -> Phase {
     let head = Head {
         at,
         word: any_word(r),
-        theta: r.next() as u32,
+        theta: any_angle(r),
         amp: pick(r, &amp) as i64,
         slot: any_slot(r),
         corr: [part(r), part(r)],
@@ -162,21 +167,33 @@ fn any_line(phase: &Phase, r: &mut Random) -> Line {
     Line { places: waiting.to_vec(), count, last }
 }
 
+/// Entries as far as a receiver's go, at their ends or away from them.
+fn narrow_sums(s: &mut Sums, r: &mut Random) {
+    let at_ends = r.below(4) == 0;
+    for ((row, column), v) in upper().zip(s.r.chunks_mut(2)) {
+        let least = if row == column { 0 } else { ENDS.product[0] };
+        v[0] = v[0].clamp(least, ENDS.square);
+        v[1] = v[1].clamp(-ENDS.turn, ENDS.turn);
+        if !at_ends {
+            v.iter_mut().for_each(|v| *v /= 2);
+        }
+    }
+    let most = ENDS.right_hand as i64;
+    s.p.iter_mut().for_each(|v| *v = (*v).clamp(-most, most));
+}
+
 /// A line that is empty or full, whatever waits; sums with entries at their ends, that are full or nearly so.
 fn any_eq(r: &mut Random) -> Equaliser {
     let mut e = any_equaliser(r);
     e.filled = pick(r, &[0, 11, 11]);
     e.taps = any_taps(r);
     e.opened = r.below(4) != 0;
-    if r.below(3) != 0 {
-        e.sums.count = LIMIT - pick(r, &[0, 1, 18, 19, 20, 23, 24, 25, 40]);
-    }
-    if r.below(4) != 0 {
-        // away from their ends
-        e.sums.r.iter_mut().for_each(|v| *v /= 2);
-    }
-    let most = ENDS.right_hand as i64;
-    e.sums.p.iter_mut().for_each(|v| *v = (*v).clamp(-most, most));
+    e.sums.count = match r.below(3) {
+        0 => e.sums.count.min(ENDS.count),
+        // no room, or room for a slot that leads out of the range, or to its end
+        _ => LIMIT - pick(r, &[16, 17, 18, 19, 20, 21, 23, 24, 25, 39, 40]),
+    };
+    narrow_sums(&mut e.sums, r);
     e
 }
 
