@@ -66,7 +66,7 @@ pub(crate) fn with_words(k: Kept, f: [i8; 48], s: [i8; 48]) -> Kept
     }
 }
 
-pub(crate) fn turned(k: Kept, told: [u64; 24]) -> Turn
+pub fn turned(k: Kept, told: [u64; 24]) -> Turn
     ensures { λ r. ⌜ r ≡ turned k told ⌝ }
 {
     Turn {
