@@ -63,7 +63,7 @@ softOf (opens frame) = []
 softOf ends = []
 softOf (restarts at a) = []
 
--- "no soft bit: none counted, buffer unchanged"
+-- no soft bit: none counted, the buffer unchanged
 pub record NoSoft (c : Call) (t : Told) : Type 0 where
   pub runs : t .runs ≡ noRuns
   pub soft : t .soft ≡ softOf c

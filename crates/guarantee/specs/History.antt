@@ -44,7 +44,7 @@ pub record History : Type 0 where
   pub pushes : List Push
   -- the carrier: phase and step, and the differences of Ssync heads so far
   pub carrier : Nco
-  -- "last accepted taps with their frame or identity, last accepted points and k"
+  -- the taps last accepted, with their frame, or the identity; the points and k last accepted
   pub taps : List ℤ
   pub from : TapsFrom
   pub points : Points
@@ -117,7 +117,7 @@ unfoldable pub trainedBy : Training → ℕ → Training
 trainedBy none k = none
 trainedBy (since frame m) k = since frame (m + k)
 
--- "training count 4,194,304 before any addition the call would make (a receiver's symbol: any of its trainings)"
+-- "training count 4,194,304 .. before any addition the call would make (a receiver's symbol: any of its trainings)"
 unfoldable pub fullBy : Training → ℕ → Bool
 fullBy none k = false
 fullBy (since frame m) k = ltb 4194304 (m + k)
@@ -203,7 +203,7 @@ accepts h ends =
     record { base = h .base; last = h .last; pushes = h .pushes; carrier = h .carrier; taps = h .taps; from = h .from; points = h .points; sums = none }
 accepts h (restarts at a) = beginsWith at (keptIn h)
 
--- "Refused calls .. change nothing."
+-- refused calls change nothing
 unfoldable pub happens : History → Call → History
 happens h c = if eqb (refusalIn h c) 0 then accepts h c else h
 

@@ -102,8 +102,8 @@ othersTo n s p k (suc m) = not (countsAt n s p (k - m)) && othersTo n s p k m
 unfoldable pub eighthAt : ℕ → (ℕ → ℕ) → ℕ → ℕ → Bool
 eighthAt n s l k = leb (l + 8) k && othersTo n s (figures n s l .place) k 8
 
--- ---- the premise of demand 3, on the first m positions: "the correlation size is at least P at one fixed position and at most Q elsewhere,
--- P ≥ 4Q + 8"; windows that are not complete are not among them
+-- ---- the premise of demand 3, on the first m positions: "correlation size at least P at one fixed position and at most Q at all
+-- others, P ≥ 4Q + 8"; windows that are not complete are not among them
 pub record Premise (n place P Q : ℕ) (s : ℕ → ℕ) (m : ℕ) : Type 0 where
   pub within : place < n
   pub apart : 4 * Q + 8 ≤ P

@@ -54,7 +54,7 @@ module _ (n base : ℕ) (last : Record) (h : List Push) where
   abbrev pub reading : ℕ → ℕ → ℕ → ℕ
   reading k p j = (k + 1 + j) * n + p
 
-  -- "from the second later reading on every reading gives a head", of that very window, or loses by markers
+  -- "from the second later reading of that position on, every reading gives a head", of that very window, or loses by markers
   pub record ReadingsTell (k p j : ℕ) : Type 0 where
     pub head : markersLoseAt n base last h (reading k p (suc j)) ≡ false →
         HeadAt (base + reading k p (suc j)) (tells n base last h (reading k p (suc j) + 23) .first)
