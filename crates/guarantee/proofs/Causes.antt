@@ -1,5 +1,5 @@
 -- The kinds of losses: by markers, or by the eighth other period in a row; and each of them loses. Assumes nothing.
-use Prim.Native.Nat.{ℕ, suc, _+_, _-_, _*_, _/_, _%_, _≤_}
+use Prim.Native.Nat.{ℕ, suc, _+_, _-_, _/_, _%_, _≤_}
 use Rattle.guarantee.proofs.Stretch.{grown-length}
 use Rattle.guarantee.proofs.Tied.{Tied, is-lost}
 use Rattle.guarantee.specs.Calls.{Call, System}
@@ -18,7 +18,7 @@ use Rattle.sync_tie.specs.Stretch.{LostByMarkers, eighthEnds, endsAt, losesAt, 
 use borrow.Author.Tests.{eq-eqb, eqb-true, le-leb}
 use lib.Dec.{eqb, lit≤}
 use lib.ListN.{length}
-use mathlib.Core.Bool.{Bool, true, false, _&&_, _||_}
+use mathlib.Core.Bool.{Bool, true, false, _||_}
 use mathlib.Core.List.{List}
 use mathlib.Core.Logic.{_⊎_, inl, inr}
 use mathlib.Core.Path.{_∙_, _≡_, ap, refl, subst, sym}

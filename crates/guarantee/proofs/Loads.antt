@@ -26,7 +26,6 @@ use Rattle.receiver_range.specs.Coherent.{CoherentReceiver, PointsFit}
 use Rattle.sums.specs.Sums.{emptySums}
 use Rattle.sync_tie.proofs.Theorems.{record-now}
 use Rattle.sync_tie.specs.Tie.{Held}
-use Rattle.sync_step.specs.declared.Run.{Run}
 use borrow.Author.Tests.{eq-eqb, eqb-true}
 use lib.Dec.{eqb, lit≤, ltb}
 use lib.IntN.{ℤ}

@@ -18,7 +18,8 @@ use Rattle.sync_heads.specs.declared.Taken.{Taken}
 use Rattle.sync_heads.specs.Words.{sideOf, marginOf, negated, saidOf}
 use Rattle.sync_heads.specs.Frames.{marksOf, swayedOf, nextSlot, unknownSlot, frameDue, gapOf, frameOf, framedOf, tickOf, dueOf, elsewhereOf, fsyncCourse}
 use Rattle.sync_history.specs.History.{earlier, firstTo}
-use Rattle.sync_history.specs.Heads.{clamped, expected, fAt, firstMark, frameAt, majority, markedAt, markersLose, missedAt, missedSince, parity, positionAt, positiveAt, recordSince, recordTo, slotAt, slotSince, ssyncAt, strayAt, straySince}
+use Rattle.sync_history.proofs.Read.{markers-tell}
+use Rattle.sync_history.specs.Heads.{MarkerLoss, clamped, expected, fAt, firstMark, frameAt, majority, markedAt, markersLose, missedAt, missedSince, parity, positionAt, positiveAt, recordSince, recordTo, slotAt, slotSince, ssyncAt, strayAt, straySince}
 use Rattle.sync_heads.specs.Heads.{isFsync, ssyncOf, fsyncOf, ssyncTaken, fsyncTaken, knownOf, bothHeads, firstOf, readOf}
 
 -- heads of even number carry Ssync, the others Fsync, but for the two whose number is a or b: NotFsync
@@ -67,3 +68,7 @@ pub record RuleRuns : Type 0 where
 pub rule-runs : RuleRuns
 unfolding word parity ssyncAt fAt positiveAt majority clamped markedAt firstTo earlier expected missedSince missedAt markersLose straySince strayAt slotAt slotSince frameAt frameOf positionAt recordTo recordSince negated marginOf sideOf magApprox choice.if_then_else_
 rule-runs = record { first-mark = refl; second-mark = refl; numbers = (refl, refl); missed = (refl, refl); stray = refl; loses = refl; kept = refl }
+
+-- so a loss by markers happens
+pub marker-loss-happens : MarkerLoss (word 5 5) 245
+marker-loss-happens = markers-tell (word 5 5) 245 .loses-only (rule-runs .loses)

@@ -1,6 +1,6 @@
 -- What the step makes of each reading is what the rules say, as long as none before has lost. Assumes nothing.
 use Prim.Native.Nat.{_%_, _-_, _<_, _≤_, suc, zero, ℕ}
-use Rattle.laws.proofs.Tests.{and-both, by-test, if-either, never}
+use Rattle.laws.proofs.Tests.{and-both, by-test, if-both, if-either, never}
 use Rattle.laws.specs.Choice as choice
 use Rattle.laws.specs.Choice.{if-no, if-yes, if_then_else_}
 use Rattle.sync_corr.specs.declared.Both.{Both}
@@ -37,8 +37,8 @@ use native.Mathlib.Omega.{arith}
 module _ (n start : ℕ) (kept : Record) (b : ℕ → Both) where
   -- ---- turns
   parity-small : parity b ≤ 1
-  unfolding parity choice.if_then_else_
-  parity-small = by-test (ltZ (marginOf (b 0)) (marginOf (b 1))) (λ t. rw t (omega arith)) (λ t. rw t (omega arith))
+  unfolding parity
+  parity-small = if-both (λ (x : ℕ). x ≤ 1) _ 1 0 (omega arith) (omega arith)
 
   turn-f : (i : ℕ) → ssyncAt b i ≡ true → ssyncAt b (suc i) ≡ false
   unfolding ssyncAt

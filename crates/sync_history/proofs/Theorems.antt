@@ -26,7 +26,7 @@ pub use Rattle.sync_history.proofs.Accumulators.{acc-bounds}
 -- by computing, at a period of 3
 pub use Rattle.sync_history.proofs.Runs.{runs, lock-happens, loss-happens, relock-happens}
 -- by computing, at heads 5, 125 and 245
-pub use Rattle.sync_history.proofs.Marks.{marker-runs, rule-runs}
+pub use Rattle.sync_history.proofs.Marks.{marker-runs, rule-runs, marker-loss-happens}
 
 -- ---- at the period 9,296 the fourth period ends with symbol 37,207: 4 * 9296 + 23 is 37207
 -- "a stretch of fewer than 37,207 symbols has no lock"
