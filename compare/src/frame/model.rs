@@ -115,9 +115,8 @@ impl Rules {
 
     pub fn in_range(&self, e: &Equaliser, line: &Line) -> bool {
         let seen = if self.behind_unseen { line.count as usize } else { self.late };
-        let waits = |(k, p): (i128, &Corrected)| {
-            i128::from(p.at) >= k + self.adjoin && p.at < self.top && p.j < self.places
-        };
+        let waits =
+            |(k, p): (i128, &Corrected)| i128::from(p.at) >= k + self.adjoin && p.at < self.top && p.j < self.places;
         self.eq.in_range(e)
             && line.count as usize <= self.late
             && (0..).zip(line.places.iter().take(seen)).all(waits)
