@@ -10,7 +10,8 @@ use sync_step::Events;
 ghost use mathlib.Core.Path.{_≡_};
 ghost use mathlib.Core.Bool.{true};
 ghost use Prim.Native.Nat.{_+_, _≤_, _<_};
-ghost use lib.ListN.{length};
+ghost use lib.ListN.{length, drop};
+ghost use Rattle.bench_text.specs.Claims.{leftOn, answerLeft, leavesPage, leavesBuffer, roomAt};
 
 // The next place of the output, and if all writing went well: a write that fails ends the program.
 struct Put {
@@ -51,7 +52,7 @@ fn write(out: &[u8], n: usize) -> bool {
 // Room for 768 bytes, three lines; what stands before it is written if it must.
 fn with_room(out: &[u8], place: usize) -> Put
     requires { ⌜ length (now out) ≡ 65536 ⌝ }
-    ensures { λ r. ⌜ r .place + 768 ≤ 65536 ⌝ }
+    ensures { λ r. ⌜ (r .place ≡ roomAt place) × (r .place + 768 ≤ 65536) ⌝ }
 {
     if place <= 64768 {
         Put {
@@ -69,7 +70,7 @@ fn with_room(out: &[u8], place: usize) -> Put
 // The lines of a run, page by page, whose first soft value is value v. A page of a fresh buffer holds a line, so that no run uses up the turns.
 fn run(r: AlignedRun, soft: &[i8], v: usize, out: &mut [u8], place: usize) -> Ran
     requires { ⌜ v ≤ length (now soft) ⌝ }
-    ensures { λ a. ⌜ a .v ≤ length (now (soft .entry)) ⌝ }
+    ensures { λ a. ⌜ (a .v ≤ length (now (soft .entry))) × (a .ok ≡ true → leavesPage (leftOn 65536 r (drop v (now (soft .entry))) place (now (out .entry))) (drop (a .v) (now (soft .entry))) (a .place) (now (out .exit))) ⌝ }
 {
     let n = r.count as usize;
     let mut i: usize = 0;
@@ -109,6 +110,7 @@ fn run(r: AlignedRun, soft: &[i8], v: usize, out: &mut [u8], place: usize) -> Ra
 // Events in order, then soft lines.
 fn answer(es: Events, rs: Runs, soft: &[i8], out: &mut [u8], place: usize) -> Put
     requires { ⌜ length (now out) ≡ 65536 ⌝ }
+    ensures { λ a. ⌜ (a .ok ≡ true → leavesBuffer (answerLeft 65536 es rs (now (soft .entry)) (roomAt place) (now (out .entry))) (a .place) (now (out .exit))) ⌝ }
 {
     let w = with_room(out, place);
     if !w.ok {

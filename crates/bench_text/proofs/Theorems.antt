@@ -1,10 +1,10 @@
 -- Pages one after another give the lines of a run. Assumes nothing.
 use mathlib.Core.Bool.{true, false}
-use mathlib.Core.List.{List, _++_, append-assoc, append-nil}
+use mathlib.Core.List.{List, [], _++_, append-assoc, append-nil}
 use mathlib.Core.Path.{_≡_, refl, sym, ap, ap₂, _∙_}
 use Prim.Native.Nat.{ℕ, zero, suc, _+_, _-_, _%_, _^_, _≤_, _<_}
 use native.Mathlib.Omega.{arith}
-use borrow.Author.Tests.{leb-true, leb-false, le-leb}
+use borrow.Author.Tests.{leb-true, leb-false, le-leb, lt-leb}
 use lib.Dec.{leb}
 use lib.IntN.{ℤ}
 use lib.ListN.{length, take, drop, length-append, length-take}
@@ -19,7 +19,7 @@ use Rattle.lines.specs.Lines.{eventLine}
 use Rattle.lines.proofs.Laws.{length-written, nothing, then as next-to}
 use Rattle.bench_text.specs.Bench.{symbolText, symbolRest, runText, runRest, eventsText, linesOf}
 use Rattle.bench_text.specs.Pages.{Paged, lineOf, pageOf}
-use Rattle.bench_text.specs.Claims.{takenOn, PageHolds, PageClaim, SplitClaim, Sent, toldBy, turned, pagesFrom, runOn, answerOn, AnswerClaim}
+use Rattle.bench_text.specs.Claims.{takenOn, PageHolds, PageClaim, SplitClaim, Sent, toldBy, turned, pagesFrom, runOn, answerOn, leftOn, answerLeft, leavesPage, leavesBuffer, AnswerClaim}
 use Rattle.bench_text.proofs.Laws.{soft-short, event-short}
 use Rattle.bench_text.proofs.Pages.{below, page-on, page-stop}
 
@@ -244,3 +244,51 @@ answer-theorem k es rs soft sent place out ht hb h =
     b .told ∙ ap₂ (λ (y : List ℕ) (us : List ℤ). y ++ runText (rs .body) (rs .body .count) 0 us) (a .told) (a .rest)
     ∙ ap (λ (y : List ℕ). y ++ v ++ z) first
     ∙ ap (λ (y : List ℕ). y ++ z) (append-assoc u t v) ∙ append-assoc u (t ++ v) z
+
+-- ---- the turns of the program: what was sent before does not bear on the page
+pub sent-apart : (k : ℕ) (r : AlignedRun) (a b : List ℕ) (p : Paged) → pagesFrom k r (record { sent = a; page = p }) .page ≡ pagesFrom k r (record { sent = b; page = p }) .page
+unfolding pagesFrom turned
+sent-apart zero r a b p = refl
+sent-apart (suc k) r a b p =
+    let q = pageOf r (r .count - p .next) p in
+    let t = leb (r .count) (q .next) in
+    by-test t
+    (λ y. ap (λ (s : Sent). s .page) (if-yes t _ _ y) ∙ sym (ap (λ (s : Sent). s .page) (if-yes t _ _ y)))
+    (λ y.
+    ap (λ (s : Sent). s .page) (if-no t _ _ y)
+    ∙ sent-apart k r (a ++ take (q .place) (q .out)) (b ++ take (q .place) (q .out)) (record { next = q .next; rest = q .rest; place = 0; out = q .out })
+    ∙ sym (ap (λ (s : Sent). s .page) (if-no t _ _ y)))
+
+-- the last page of a run, and one that is not
+pub turn-last : (k : ℕ) (r : AlignedRun) (p q : Paged) → q ≡ pageOf r (r .count - p .next) p → r .count ≤ q .next →
+    pagesFrom 0 r (record { sent = []; page = q }) .page ≡ pagesFrom (suc k) r (record { sent = []; page = p }) .page
+unfolding pagesFrom
+turn-last k r p q e h =
+    let u = pageOf r (r .count - p .next) p in
+    e ∙ sym (ap (λ (s : Sent). s .page) (if-yes (leb (r .count) (u .next)) _ _ (rw (← e) (le-leb (r .count) (q .next) h))))
+
+pub turn-on : (k : ℕ) (r : AlignedRun) (p q : Paged) → q ≡ pageOf r (r .count - p .next) p → q .next < r .count →
+    pagesFrom k r (record { sent = []; page = record { next = q .next; rest = q .rest; place = 0; out = q .out } }) .page ≡ pagesFrom (suc k) r (record { sent = []; page = p }) .page
+unfolding pagesFrom turned
+turn-on k r p q e h =
+    let u = pageOf r (r .count - p .next) p in
+    ap (λ (x : Paged). pagesFrom k r (record { sent = []; page = record { next = x .next; rest = x .rest; place = 0; out = x .out } }) .page) e
+    ∙ sent-apart k r [] ([] ++ take (u .place) (u .out)) (record { next = u .next; rest = u .rest; place = 0; out = u .out })
+    ∙ sym (ap (λ (s : Sent). s .page) (if-no (leb (r .count) (u .next)) _ _ (rw (← e) (lt-leb (r .count) (q .next) h))))
+
+-- an answer by its parts: the events, and what both runs leave
+second-run : (k : ℕ) (r : AlignedRun) (a : Sent) (vs : List ℤ) (to : ℕ) (out : List ℕ) → vs ≡ a .page .rest → to ≡ a .page .place → out ≡ a .page .out →
+    leftOn k r vs to out ≡ runOn k r (a .page .rest) (a .sent) (a .page .place) (a .page .out) .page
+unfolding runOn
+second-run k r a vs to out x y z = rw (x, y, z) (sent-apart k r [] (a .sent) _)
+
+pub answer-left : (k : ℕ) (es : Events) (rs : Runs) (soft : List ℤ) (place : ℕ) (out o : List ℕ) (e : ℕ) (vs ws : List ℤ) (to end : ℕ) (l m : List ℕ) →
+    Wrote out place (eventsText es) o e → leavesPage (leftOn k (rs .tail) soft e o) vs to l → leavesPage (leftOn k (rs .body) vs to l) ws end m →
+    leavesBuffer (answerLeft k es rs soft place out) end m
+unfolding answerOn
+answer-left k es rs soft place out o e vs ws to end l m w x y =
+    let t = eventsText es in
+    let a = runOn k (rs .tail) soft [] (place + length t) (written out place t) in
+    let p : leftOn k (rs .tail) soft e o ≡ a .page = ap₂ (λ (i : ℕ) (u : List ℕ). leftOn k (rs .tail) soft i u) (w .behind) (w .is) in
+    let q = second-run k (rs .body) a vs to l (x .0 ∙ ap (λ (z : Paged). z .rest) p) (x .1 ∙ ap (λ (z : Paged). z .place) p) (x .2 ∙ ap (λ (z : Paged). z .out) p) in
+    (y .1 ∙ ap (λ (z : Paged). z .place) q, y .2 ∙ ap (λ (z : Paged). z .out) q)

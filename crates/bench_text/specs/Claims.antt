@@ -1,7 +1,7 @@
 -- Pages one after another give the lines of a run, and the lines of an answer.
 use Prim.Native.Nat.{ℕ, zero, suc, _+_, _-_, _≤_, _<_}
 use mathlib.Core.Bool.{true}
-use mathlib.Core.List.{List, _++_}
+use mathlib.Core.List.{List, [], _++_}
 use mathlib.Core.Path.{_≡_}
 use lib.Dec.{leb}
 use lib.IntN.{ℤ}
@@ -66,6 +66,24 @@ answerOn k es rs soft sent place out =
     let t = eventsText es in
     let x = runOn k (rs .tail) soft sent (place + length t) (written out place t) in
     runOn k (rs .body) (x .page .rest) (x .sent) (x .page .place) (x .page .out)
+
+-- what they leave in the page, which does not lie in what was sent before (proofs/Theorems.antt, `sent-apart`): the contracts of the bench program cite it
+abbrev pub leftOn : ℕ → AlignedRun → List ℤ → ℕ → List ℕ → Paged
+leftOn k r vs place out = runOn k r vs [] place out .page
+
+abbrev pub answerLeft : ℕ → Events → Runs → List ℤ → ℕ → List ℕ → Paged
+answerLeft k es rs soft place out = answerOn k es rs soft [] place out .page
+
+-- values, place and buffer are those of a page
+abbrev pub leavesPage : Paged → List ℤ → ℕ → List ℕ → Type 0
+leavesPage p vs place out = (vs ≡ p .rest) × (place ≡ p .place) × (out ≡ p .out)
+
+abbrev pub leavesBuffer : Paged → ℕ → List ℕ → Type 0
+leavesBuffer p place out = (place ≡ p .place) × (out ≡ p .out)
+
+-- where an answer begins in a buffer of 65,536: at the front, if there is no room for three lines
+unfoldable pub roomAt : ℕ → ℕ
+roomAt place = if leb place 64768 then place else 0
 
 -- with room for three lines at the place, and a page more than either run has symbols, all that is told is what was, and the answer's lines behind it
 abbrev pub AnswerClaim : Type 0
