@@ -1,6 +1,6 @@
 #!/bin/bash
 # bench.sh: time and instructions of a call of fx; of a symbol in the slot sync, rotated, corrected, filtered, demapped; of a training and a
-# solve: the Rust beside the port, each from one driver.
+# solve; of a symbol in a whole receiver, and in which functions: the Rust beside the port, each from one driver.
 set -eu
 . "$(dirname "$0")/common.sh"
 need_rust
@@ -12,6 +12,7 @@ out=$root/target/compare
 mkdir -p "$out/fast"
 
 # The measured Rust is a plain release build; lto takes its function into the uninlined one that is called.
+optimised=3
 originals "$out/fast"
 with_port "$port"
 program "$out/fast" bench_fx.rs "$out/bench_fx" -C lto=fat "${port_flags[@]}"
@@ -88,7 +89,11 @@ for entry in 'filter none 9296' 'train pushes 1000' 'solve none 50'; do
     line "$1" $((rust - less)) $((ours - none)) "$3"
 done
 
-# .. of eight periods of a locked receiver
+none=$(instructions bench_eq rows none)
+ours=$(instructions bench_eq rows port)
+printf '%-14s %9s %9.1f\n' rows - "$(awk -v d=$((ours - none)) 'BEGIN { print d / 1000 }')"
+
+# receives ENTRY BITS SIDE: the instructions of eight periods of a locked receiver
 receives() {
     echo $(($(instructions bench_receiver "$1" "$2" "$3" 16) - $(instructions bench_receiver "$1" "$2" "$3" 8)))
 }
@@ -103,7 +108,23 @@ for entry in feed symbol; do
         line "$entry $bits" $((rust - none)) $((ours - none)) $((8 * 9296))
     done
 done
-# .. and of a call of `feed` beside its symbols
+# a call of `feed` beside its symbols
 bare=$(instructions bench_receiver feed 1 port 8)
 more=$(instructions bench_receiver empty 1 port 8)
 printf '%-14s %9s %9.1f\n' 'empty feed' - "$(awk -v d=$((more - bare)) 'BEGIN { print d / 1000 }')"
+
+# within BITS: where the instructions of a fed symbol go, by the functions that the compiler left: those of eight periods
+within() {
+    local periods
+    for periods in 16 8; do
+        valgrind --tool=callgrind --callgrind-out-file="$out/callgrind.$periods" "$out/bench_receiver" count feed "$1" port $periods >/dev/null 2>&1
+        callgrind_annotate --threshold=100 "$out/callgrind.$periods" | sed -n 's/^ *\([0-9,]*\) .*:\([a-z_]*::[a-z_:]*\) .*/\2 \1/p' | tr -d ,
+    done | awk -v n=$((8 * 9296)) '{ if ($1 in first) seen[$1] = first[$1] - $2; else first[$1] = $2 }
+        END { for (f in first) { d = (f in seen ? seen[f] : first[f]) / n; if (d >= 1) printf "%9.1f %s\n", d, f } }' | sort -rn
+}
+
+for bits in 1 5; do
+    echo
+    echo "instructions of a fed symbol by function, $bits bits:"
+    within $bits
+done

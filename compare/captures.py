@@ -75,6 +75,26 @@ def ends(c):
     c.refused("most-symbols-and-an-odd-byte", 12, most + b"\1")
 
 
+def block_ends(c):
+    """Ends within 4 bytes of the blocks that the program reads, at every width: exactly as declared, a byte or more over, cut short."""
+    seeded = random.Random(65536)
+    for bits in (1, 2, 3, 4, 5):
+        points = points_body(bits, 0)
+        header = CONTENTS + WORDS + TABLE + len(points)
+        for end in (65536, 131072):
+            for off in range(-4, 5):
+                length = end + off - header
+                for name, declared in (("whole", length - length % 2), ("short", length + 2 - length % 2)):
+                    before = contents([WORDS, TABLE, len(points), declared]) + c.words + c.table + points
+                    # zero symbols print a period of zeros for each 9,296 complete windows
+                    periods = (min(length, declared) // 2 - 23) // SLOT
+                    last = f"end {declared // 2}" if length == declared else "refused 12"
+                    owed = "period 0 0 0 0\n" * periods + last + "\n"
+                    c.put(f"zeros-{bits}-{end}{off:+}-{name}", before + bytes(length), owed)
+                    if off % 2 == 0:
+                        c.put(f"noise-{bits}-{end}{off:+}-{name}", before + seeded.randbytes(length))
+
+
 def wrong_contents(c):
     good = c.whole()
     for n in (0, 3, 5, 255):
@@ -195,7 +215,7 @@ def main():
         return pieces(sys.argv[2])
     with open(sys.argv[1], "rb") as file:
         c = Captures(file.read(), sys.argv[2])
-    for make in (ends, wrong_contents, wrong_bodies, limits):
+    for make in (ends, block_ends, wrong_contents, wrong_bodies, limits):
         make(c)
 
 

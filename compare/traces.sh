@@ -12,12 +12,11 @@ mkdir -p "$made"
 # trace SLOT: the run at this length
 trace() {
     local out=$made/$1 flags=(-C overflow-checks=on -C debug-assertions=on -C opt-level=0)
-    local stages=(--extern isdbs3_phy --extern isdbs3_core)
     mkdir -p "$out"
     export SLOT_CUT=$1
     stages "$out" "${flags[@]}"
-    library 2021 "$out" wired "$here/src/receiver/wired.rs" "${stages[@]}" "${flags[@]}"
-    rustc --edition 2021 -L "$out" "${stages[@]}" --extern isdb_frontend --extern wired -o "$out/traces" "$here/src/traces.rs"
+    rustc --edition 2021 -L "$out" --extern isdbs3_phy --extern isdbs3_core --extern isdb_frontend -o "$out/traces" \
+        "${flags[@]}" "$here/src/traces.rs"
     "$out/traces"
 }
 

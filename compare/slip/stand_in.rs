@@ -1,8 +1,11 @@
 //! The port's C functions made of the Rust itself, with one slip planted by name (environment
 //! variable SLIP): shows that the comparison finds it. Without SLIP the stand-in is right.
 
+mod correlate;
 mod place;
+mod reference;
 mod soft;
+mod solve;
 
 use cases::fx::{Answer, FUNCTIONS};
 use isdbs3_phy::chain::fx as rust;
@@ -84,7 +87,7 @@ fn scale_toward_zero(mut re: i64, mut im: i64) -> Answer {
 fn planted() -> &'static Option<(&'static str, Slip)> {
     static PLANTED: OnceLock<Option<(&str, Slip)>> = OnceLock::new();
     PLANTED.get_or_init(|| {
-        let name = std::env::var("SLIP").ok()?;
+        let name = std::env::var("SLIP").ok().filter(|name| !name.is_empty())?;
         let slip = SLIPS.iter().find(|s| s.0 == name);
         let (_, function, wrong) = slip.unwrap_or_else(|| panic!("no slip of the name {name}"));
         Some((*function, *wrong))

@@ -82,6 +82,9 @@ impl Input {
     }
 }
 
+/// Calls that make rows.
+const ROWS: usize = 1_000;
+
 const REFERENCE: Pair = [724, -724];
 
 /// Outputs of the filter, a sum's entries, taps: what each side makes, flat.
@@ -182,7 +185,19 @@ fn time(input: &Input) {
     }
 }
 
+/// The rows of the taps, which only the port makes, once a load.
+fn rows(input: &Input) {
+    let line = Line { x: std::array::from_fn(|k| input.taps[k / 2][k % 2]) };
+    // SAFETY: numbers by value.
+    (0..ROWS).for_each(|_| drop(black_box(unsafe { measure_rows(black_box(line)) })));
+}
+
 fn count(input: &Input, entry: &str, side: &str) {
+    if entry == "rows" {
+        return if side == "port" {
+            rows(input)
+        };
+    }
     let Some(&(entry, n)) = ENTRIES.iter().find(|e| e.0 == entry) else { usage() };
     black_box(match (side, entry) {
         ("rust", _) => rust(input, entry, n),
@@ -199,7 +214,7 @@ fn count(input: &Input, entry: &str, side: &str) {
 }
 
 fn usage() -> ! {
-    eprintln!("usage: bench_eq time | bench_eq count filter|train|solve none|pushes|rust|port");
+    eprintln!("usage: bench_eq time | bench_eq count filter|train|solve|rows none|pushes|rust|port");
     std::process::exit(2)
 }
 

@@ -280,7 +280,9 @@ fn main() {
     let args: Vec<&str> = args.iter().map(String::as_str).collect();
     match args[..] {
         ["time"] => time(),
-        ["count", entry, bits, who, periods] if (ENTRIES.contains(&entry) || entry == "empty") && SIDES.contains(&who) => {
+        ["count", entry, bits, who, periods]
+            if (ENTRIES.contains(&entry) || entry == "empty") && SIDES.contains(&who) =>
+        {
             let input = Input::new(bits.parse().expect("bits"), periods.parse().expect("periods"));
             println!("{}", side(&input, entry, who));
         }

@@ -3,33 +3,10 @@
 
 use crate::port;
 use crate::stage_check::compare_stage;
+use crate::tally::Tally;
 use cases::demap::soft::{self, Demap, Rotated, Turner};
 use cases::fx::Answer;
 use cases::inputs::{self, Random, Size};
-use std::fmt::Debug;
-
-#[derive(Default)]
-struct Tally {
-    compared: u64,
-    refused: u64,
-}
-
-impl Tally {
-    fn same<T: PartialEq + Debug>(&mut self, name: &str, call: impl Debug, refusal: u8, expected: T, given: T) {
-        if given != expected {
-            println!("DIFFERENCE in {name}: {call:?}");
-            println!("  expected {expected:?}");
-            println!("  the port {given:?}");
-            std::process::exit(1)
-        }
-        self.compared += 1;
-        self.refused += u64::from(refusal != 0);
-    }
-
-    fn print(&self, name: &str) {
-        println!("{name:22} {:>9} compared, {:>8} of them refused", self.compared, self.refused);
-    }
-}
 
 fn demap(tally: &mut Tally, d: &Demap) {
     let expected = d.expected();
@@ -38,12 +15,30 @@ fn demap(tally: &mut Tally, d: &Demap) {
     tally.same("demap", d, expected.0.refusal, expected, (given, out));
 }
 
+/// The calls that document 01's table decides by itself.
+fn asked() {
+    let mut tally = Tally::new("demap");
+    for (room, bits, numbers, k, refusal) in soft::ASKED {
+        let given = port::demap([3, -4], &vec![7; numbers], bits, k, &mut vec![85; room]);
+        tally.same("demap", (room, bits, numbers, k), refusal, refusal, given.refusal);
+    }
+    for (v, refusal) in soft::ASKED_NUMBERS {
+        tally.same("scale_of", v, refusal, refusal, port::scale_of(v).refusal);
+        tally.same("gain_of", v, refusal, refusal, port::gain_of(v).refusal);
+    }
+    for (entries, refusal) in soft::ASKED_ENTRIES {
+        tally.same("rotate", entries, refusal, refusal, port::rotate(5, 6, [7, 8], &vec![9; entries]).refusal);
+    }
+    tally.print("by document 01's table");
+}
+
 fn demaps(size: Size, random: &mut Random) {
-    let mut tally = Tally::default();
+    let mut tally = Tally::new("demap");
     soft::demaps_at_limits(random).iter().for_each(|d| demap(&mut tally, d));
     tally.print("demap, limits");
+    assert!(tally.compared > 70_000 && tally.refused < tally.compared, "demaps at limits");
     for bits in 1..=5 {
-        let mut tally = Tally::default();
+        let mut tally = Tally::new("demap");
         for _ in 0..if size == Size::Full { 10_000_000 } else { 1_000_000 } {
             demap(&mut tally, &soft::any_demap(bits, random));
         }
@@ -52,7 +47,7 @@ fn demaps(size: Size, random: &mut Random) {
 }
 
 fn numbers(name: &str, calls: u64, random: &mut Random, expected: fn(i64) -> Answer, port: fn(i64) -> Answer) {
-    let mut tally = Tally::default();
+    let mut tally = Tally::new("demap");
     let mut call = |v: i64| {
         let right = expected(v);
         tally.same(name, v, right.refusal, right, port(v));
@@ -66,7 +61,7 @@ fn numbers(name: &str, calls: u64, random: &mut Random, expected: fn(i64) -> Ans
 }
 
 fn rotations(calls: u64, random: &mut Random) {
-    let mut tally = Tally::default();
+    let mut tally = Tally::new("demap");
     for table in inputs::right_tables(random) {
         let mut turner = Turner::new(&table);
         for _ in 0..calls / 4 {
@@ -90,6 +85,7 @@ pub fn compare(size: Size, seed: u64) {
     println!("comparing with the Rust's chain/demap.rs, seed {seed}");
     let mut random = Random(seed);
     let calls = if size == Size::Full { 20_000_000 } else { 2_000_000 };
+    asked();
     demaps(size, &mut random);
     numbers("scale_of", calls, &mut random, soft::scale_of, port::scale_of);
     numbers("gain_of", calls, &mut random, soft::gain_of, port::gain_of);

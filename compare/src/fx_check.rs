@@ -2,8 +2,10 @@
 
 use crate::check::Check;
 use crate::port;
-use cases::fx::{Function, FUNCTIONS};
+use crate::stage_check::counted;
+use cases::fx::{Function, Kind, ASKED, FUNCTIONS};
 use cases::inputs::{self, Random};
+use cases::stage::BY_RUST;
 
 struct Tables {
     right: Vec<Vec<i16>>,
@@ -51,6 +53,21 @@ fn check_random(check: &mut Check, f: &Function, tables: &Tables, calls: u64, ra
     }
 }
 
+/// The calls that document 01's table decides by itself.
+fn asked(f: &Function, port: port::Call) -> u64 {
+    let calls = ASKED.iter().filter(|asked| asked.0 == f.name);
+    calls
+        .map(|&(name, entries, a, b, refusal)| {
+            let given = port(&vec![5; entries], a, b);
+            if given.refusal != refusal {
+                println!("DIFFERENCE in {name}: a = {a}, b = {b}, with a table of {entries} entries");
+                println!("  document 01: refusal {refusal}\n  the port {given:?}");
+                std::process::exit(1)
+            }
+        })
+        .count() as u64
+}
+
 pub fn compare(calls: u64, seed: u64) {
     println!("comparing with the Rust's chain/fx.rs: {calls} random calls a function, seed {seed}");
     let mut random = Random(seed);
@@ -62,7 +79,11 @@ pub fn compare(calls: u64, seed: u64) {
         check_ranges(&mut check, f, &tables);
         check_limits(&mut check, f, &tables);
         check_random(&mut check, f, &tables, calls, &mut random);
+        assert!(asked(f, port) > 0 && check.compared > calls, "{} was not asked enough", f.name);
+        let refusing = f.takes_table || f.kinds.iter().any(|kind| ![Kind::Unused, Kind::Angle].contains(kind));
+        assert!(!refusing || check.refused > calls / 100, "{} refused too seldom", f.name);
         println!("{:13} {:>11} compared, {:>10} of them refused", f.name, check.compared, check.refused);
+        counted("fx", f.name, BY_RUST, check.compared - check.refused);
         compared += check.compared;
         refused += check.refused;
     }

@@ -1,5 +1,5 @@
-//! compare [fx] [sync] [phase] [demap] [eq] [frame] [receiver] [--quick | --full] [--seed N]: the port beside the Rust, on the same inputs.
-//! Without a part: all.
+//! compare [fx] [sync] [phase] [demap] [eq] [frame] [receiver] [--quick | --full] [--seed N] [--counts FILE]: the port beside the Rust, on the same
+//! inputs. Without a part: all. With --counts everything that is counted goes to FILE, by name.
 
 mod check;
 mod demap_check;
@@ -12,6 +12,7 @@ mod receiver_check;
 mod replay;
 mod stage_check;
 mod sync_check;
+mod tally;
 
 use cases::inputs::Size;
 
@@ -40,7 +41,7 @@ const PARTS: [(&str, fn(&Arguments)); 7] = [
 ];
 
 fn usage() -> ! {
-    eprintln!("usage: compare [fx] [sync] [phase] [demap] [eq] [frame] [receiver] [--quick | --full] [--seed NUMBER]");
+    eprintln!("usage: compare [fx] [sync] [phase] [demap] [eq] [frame] [receiver] [--quick | --full] [--seed NUMBER] [--counts FILE]");
     std::process::exit(2)
 }
 
@@ -51,6 +52,7 @@ fn arguments() -> Arguments {
         match word.as_str() {
             "--quick" => a.calls = QUICK,
             "--full" => a.size = Size::Full,
+            "--counts" => stage_check::tell_counts(&words.next().unwrap_or_else(|| usage())),
             "--seed" => a.seed = words.next().and_then(|n| n.parse().ok()).unwrap_or_else(|| usage()),
             part if PARTS.iter().any(|(name, _)| *name == part) => a.parts.push(word),
             _ => usage(),

@@ -1,7 +1,10 @@
 //! The port, as the C functions of crate c_api.
 
 use cases::demap::soft::Rotated;
+use cases::eq::systems::{Solution, System};
+use cases::frame::reference::Reference;
 use cases::fx::Answer;
+use cases::sync::correlate::Correlate;
 
 #[repr(C)]
 pub struct Number {
@@ -36,6 +39,34 @@ pub struct Rotation {
     pub refusal: u8,
 }
 
+#[repr(C)]
+struct Window {
+    x: [i16; 48],
+}
+
+#[repr(C)]
+struct OneWord {
+    w: [i8; 48],
+}
+
+#[repr(C)]
+struct Words {
+    f: [i8; 48],
+    s: [i8; 48],
+}
+
+#[repr(C)]
+struct Equations {
+    a: [f64; 242],
+    b: [f64; 22],
+}
+
+#[repr(C)]
+struct Unknowns {
+    x: [f64; 22],
+    refusal: u8,
+}
+
 extern "C" {
     pub fn sv_round_shift(v: i64, s: u32) -> Number;
     pub fn sv_sat16(v: i64) -> Number;
@@ -51,6 +82,9 @@ extern "C" {
     fn sv_rotate(phase: u32, freq: i32, xi: i8, xq: i8, table: *const i16, len: usize) -> Rotation;
     fn sv_gain_of(amp: i64) -> Number;
     fn sv_part(j: usize) -> Numbers;
+    fn sv_correlate(window: Window, word: OneWord) -> Numbers;
+    fn sv_reference(word: u8, k: usize, words: Words) -> Numbers;
+    fn sv_solve(e: Equations) -> Unknowns;
     fn sv_scale_of(n0: i64) -> Number;
     fn sv_demap(
         yi: i16,
@@ -102,4 +136,19 @@ pub fn gain_of(amp: i64) -> Answer {
 pub fn rotate(phase: u32, freq: i32, x: [i8; 2], table: &[i16]) -> Rotated {
     let r = unsafe { sv_rotate(phase, freq, x[0], x[1], table.as_ptr(), table.len()) };
     Rotated { refusal: r.refusal, phase: r.phase, turned: [r.i, r.q] }
+}
+
+pub fn correlate(c: &Correlate) -> Answer {
+    unsafe { sv_correlate(Window { x: c.window }, OneWord { w: c.word }) }.into()
+}
+
+pub fn reference(r: &Reference) -> Answer {
+    let [f, s] = r.words;
+    unsafe { sv_reference(r.word, r.k, Words { f, s }) }.into()
+}
+
+pub fn solve(system: &System) -> Solution {
+    let (a, b) = system.flat();
+    let Unknowns { x, refusal } = unsafe { sv_solve(Equations { a, b }) };
+    Solution { refusal, x }
 }

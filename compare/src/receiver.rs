@@ -13,4 +13,4 @@ pub mod parts;
 pub mod player;
 pub mod ranges;
 pub mod signal;
-pub mod wired;
+pub mod slips;

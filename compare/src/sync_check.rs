@@ -1,8 +1,13 @@
-//! Plays the streams to the replay program and compares all that it tells, while the Rust goes beside it.
+//! The correlation's C function beside the Rust's own. Then plays the streams to the replay program and compares all that it tells, while the
+//! Rust goes beside it.
 
+use crate::port;
 use crate::replay::{self, Owes};
+use crate::stage_check::enough;
+use crate::tally::Tally;
 use cases::inputs::{Random, Size};
 use cases::sync::calls::{Answer, Told};
+use cases::sync::correlate::{any_correlation, correlations, Correlate};
 use cases::sync::player::{Owed, Player, Telling, Totals};
 use cases::sync::streams::{Stream, STREAMS};
 use std::path::Path;
@@ -38,8 +43,26 @@ fn report(stream: &Stream, seed: u64, d: &Difference) -> ! {
     std::process::exit(1)
 }
 
+fn correlate(tally: &mut Tally, c: &Correlate) {
+    let expected = c.expected();
+    tally.same("correlate", c, expected.refusal, expected, port::correlate(c));
+}
+
+fn compare_correlations(size: Size, random: &mut Random) {
+    let mut tally = Tally::new("sync");
+    for (c, refusal) in correlations(random) {
+        tally.same("correlate", c, refusal, refusal, port::correlate(&c).refusal);
+        correlate(&mut tally, &c);
+    }
+    for _ in 0..if size == Size::Full { 10_000_000 } else { 1_000_000 } {
+        correlate(&mut tally, &any_correlation(random));
+    }
+    tally.print_enough("correlate", &[("by the Rust", 430_000), ("refused", 60_000)]);
+}
+
 pub fn compare(size: Size, seed: u64) {
     println!("comparing with the Rust's SlotSync in chain/sync.rs, seed {seed}");
+    compare_correlations(size, &mut Random(seed));
     let program = replay::program("SYNC_REPLAY", "sync_replay");
     let mut all = Totals::default();
     for (k, stream) in (1..).zip(&STREAMS) {
@@ -52,6 +75,7 @@ pub fn compare(size: Size, seed: u64) {
             report(stream, seed, &play(&program, stream, seed, size, each).err().unwrap_or(d))
         });
         println!("{:22} {totals}", stream.name);
+        enough("sync", stream.name, stream.least, &totals);
         all += totals;
     }
     println!("{:22} {all}: no difference", "all of sync");

@@ -1,19 +1,22 @@
 //! traces: what the unchanged stages, wired as a receiver, make of the short run at this length of a slot, as text of antt on standard
 //! output. Its words stand in crates/receiver_runs/specs/Play.antt. Where the Rust's own `Chain` goes the same way, it goes along.
 
-#[path = "receiver/beside.rs"]
-mod beside;
+#[path = "rust/chain.rs"]
+mod chain;
 #[path = "receiver/short.rs"]
 mod short;
+#[path = "rust/wired.rs"]
+mod wired;
 
-use beside::Beside;
+use chain::Along;
 use isdbs3_core::params::MOD_SLOT;
+use isdbs3_phy as phy;
 use isdbs3_phy::chain::eq::Sums;
 use isdbs3_phy::chain::phase::Corrected;
 use isdbs3_phy::chain::sync::{Head, SyncStats, Word};
 use short::{Call, Plan};
 use std::fmt::Display;
-use wired::{self, Event, Receiver, Run, Told};
+use wired::{Event, Receiver, Run, Told};
 
 /// As in the replay programs.
 const FACTOR: u64 = 2_654_435_761;
@@ -215,7 +218,7 @@ fn call_lines(call: &Call) -> Vec<String> {
 
 struct Player {
     receiver: Receiver,
-    beside: Beside,
+    beside: Along,
     heard: usize,
     from: usize,
     soft: Vec<i8>,
@@ -299,7 +302,7 @@ fn main() {
     isdb_frontend::s3sync::choose_words(f, s);
     isdb_frontend::tables::choose_table(&table);
     let receiver = Receiver::new(at, step);
-    let beside = Beside::new(at, step);
+    let beside = Along::new(at, step);
     let soft_buffer = vec![FILL; soft];
     let mut player =
         Player { receiver, beside, heard: 0, from, soft: soft_buffer, digest: Digest::default(), told: Vec::new() };

@@ -5,23 +5,76 @@ use super::model::{labels, Force};
 use super::player::{Player, ALL};
 use super::soft::{any_points, any_scale, any_symbol};
 use crate::inputs::{pick, times, Random, Size};
+use crate::stage::Least;
 
 pub struct Kind {
     pub name: &'static str,
     pub play: fn(&mut Player, &mut Random, Size),
+    pub least: Least,
 }
 
 pub const KINDS: [Kind; 10] = [
-    Kind { name: "refusals in order", play: refusals },
-    Kind { name: "limits of learning", play: learning_limits },
-    Kind { name: "limits in force", play: force_limits },
-    Kind { name: "halves", play: halves },
-    Kind { name: "frames", play: frames },
-    Kind { name: "next after next", play: chains },
-    Kind { name: "handed-in states", play: handed_in },
-    Kind { name: "states led to", play: led },
-    Kind { name: "slices and others", play: slices },
-    Kind { name: "metrics and blocks", play: blocks },
+    Kind {
+        name: "refusals in order",
+        play: refusals,
+        least: &[
+            ("by the Rust", 0),
+            ("by the Rust, opened", 1),
+            ("looks at its state", 1),
+            ("refused 4", 880),
+            ("refused 6", 21),
+            ("refused 8", 1),
+        ],
+    },
+    Kind {
+        name: "limits of learning",
+        play: learning_limits,
+        least: &[
+            ("by the Rust", 0),
+            ("by the Rust, opened", 2_600),
+            ("looks at its state", 160),
+            ("refused 6", 3_200),
+            ("refused 8", 33),
+        ],
+    },
+    Kind {
+        name: "limits in force",
+        play: force_limits,
+        least: &[("by the Rust", 21_000), ("looks at its state", 3_100), ("refused 6", 2_400)],
+    },
+    Kind { name: "halves", play: halves, least: &[("by the Rust", 400_000), ("looks at its state", 30_000)] },
+    Kind { name: "frames", play: frames, least: &[("by the Rust", 1_400_000), ("looks at its state", 37_000)] },
+    Kind { name: "next after next", play: chains, least: &[("by the Rust", 550_000), ("looks at its state", 17_000)] },
+    Kind {
+        name: "handed-in states",
+        play: handed_in,
+        least: &[
+            ("by the Rust", 0),
+            ("by the Rust, opened", 400_000),
+            ("looks at its state", 14_000),
+            ("refused 6", 15_000),
+            ("refused 8", 8_700),
+            ("refused 255", 290),
+        ],
+    },
+    Kind { name: "states led to", play: led, least: &[("by the Rust", 140_000), ("looks at its state", 10_000)] },
+    Kind {
+        name: "slices and others",
+        play: slices,
+        least: &[("by the Rust", 8_000), ("looks at its state", 1), ("refused 4", 6_400), ("refused 255", 1_000)],
+    },
+    Kind {
+        name: "metrics and blocks",
+        play: blocks,
+        least: &[
+            ("by the Rust", 250_000),
+            ("looks at its state", 1),
+            ("refused 1", 77_000),
+            ("refused 4", 18_000),
+            ("refused 5", 13_000),
+            ("refused 255", 22_000),
+        ],
+    },
 ];
 
 const MOST: u32 = 1 << 26;
@@ -161,7 +214,7 @@ const WRONG_PILOTS: [u64; 6] = [32, 33, 63, 64, 1 << 32, u64::MAX];
 
 /// A state that no other limit is close to.
 fn plain(p: &mut Player) {
-    p.hand_in_learn(Call::New);
+    p.ask(Call::New);
     for a in 0..if p.sparse { 3 } else { 62 } {
         p.ask(Call::PutCount { k: a, v: 3 });
         p.ask(Call::PutSum { k: 2 * a, v: 7 * a as i64 - 200 });
@@ -269,7 +322,7 @@ fn learning_limits(p: &mut Player, r: &mut Random, size: Size) {
             if !kept(size, 2, r) {
                 continue;
             }
-            p.hand_in_learn(Call::PutSum { k, v });
+            p.ask(Call::PutSum { k, v });
             all_calls(p, taken, r);
         }
     }
@@ -364,7 +417,7 @@ fn force_limits(p: &mut Player, r: &mut Random, size: Size) {
 /// Anything, and calls on it.
 fn handed_in(p: &mut Player, r: &mut Random, size: Size) {
     for _ in 0..times(size, [3, 20_000, 200_000]) {
-        p.hand_in_learn(Call::New);
+        p.ask(Call::New);
         let bits = 1 + r.below(times(size, [2, 5, 5])) as u64;
         for a in labels(bits) {
             let v = match r.below(8) {
@@ -437,7 +490,7 @@ fn slices(p: &mut Player, r: &mut Random, size: Size) {
             p.ask(Call::SetNominal { k, v: r.next() as i16 });
         }
         p.slices();
-        p.hand_in_learn(Call::New);
+        p.ask(Call::New);
         for flags in 0..times(size, [3, 32, 32]) {
             let learned = std::array::from_fn(|b| flags >> b & 1 == 1);
             p.ask(Call::PutForce(Force { learned, n0: 1, k: 1, from: None }));

@@ -123,7 +123,7 @@ impl Rules {
         ((1i128 << 33) + n).div_euclid(2 * n) as i64
     }
 
-    fn learn_in_range(&self, l: &Learn) -> bool {
+    pub fn learn_in_range(&self, l: &Learn) -> bool {
         let sum = |&s: &i64| {
             let s = i128::from(s);
             (-(1 << 41) - self.sum_spare..=(1 << 41) - (1 << 26) + self.sum_spare).contains(&s)

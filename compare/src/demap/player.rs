@@ -1,15 +1,17 @@
 //! Makes calls with what each owes, while the Rust goes beside them wherever it can be given the same: the model has to
-//! agree with it. The model alone answers for refusals and for handed-in states.
+//! agree with it. The model alone answers for refusals.
 
+use super::beside::{agree_in_learning, points_of, Beside};
 use super::calls::{soft_told, Block, Call, Numbers, SOFT};
 use super::desk::{lent, Desk};
 use super::model::{labels, numbers, Force, LABELS, NUMBERS, RULES};
+use super::slips;
 use super::soft::pairs;
 use crate::inputs::Random;
+use crate::opened::handed_in;
 use crate::stage::{Calls, Sink, Totals};
 use crate::sync::calls::digest;
-use isdbs3_core::params::CodeRate;
-use isdbs3_core::slots::Slot;
+use crate::unchanged::learn::{Learning, RATE};
 use isdbs3_phy::chain::demap::{self as rust, MODULATIONS};
 use std::fmt::Debug;
 
@@ -18,37 +20,42 @@ pub const ALL: u64 = NUMBERS as u64;
 
 pub struct Player<'a> {
     pub desk: Desk,
-    /// The Rust beside it, while all that it was given is known; and how many calls its sums have taken.
-    learn: Option<rust::Learn>,
+    /// The Rust beside, and whether its fields are opened.
+    beside: Box<dyn Beside>,
+    opened: bool,
+    /// Numbers of what was learned were handed in: the opened Rust is made from them before the next call that reads them. Until then, and
+    /// where they are out of range, the Rust has something else.
+    altered: bool,
+    /// Calls whose effect the Rust has not shown yet.
     fed: u64,
-    force: Option<rust::InForce>,
-    rate: CodeRate,
+    nominal: Vec<i16>,
     /// For a sample: short.
     pub sparse: bool,
     calls: Calls<'a>,
     disguise: Random,
     by_rust: u64,
-}
-
-fn flat(points: &[[i16; 2]]) -> Vec<i16> {
-    points.iter().flatten().copied().collect()
+    by_opened: u64,
+    looks: u64,
 }
 
 impl<'a> Player<'a> {
     pub fn new(seed: u64, sink: &'a mut Sink<'a>) -> Self {
+        let nominal = MODULATIONS.iter().flat_map(|&m| rust::nominal(m, RATE)).flatten().collect();
         let mut player = Self {
-            desk: Desk::new(RULES),
-            learn: None,
+            desk: Desk::new(slips::of_model()),
+            beside: Box::new(Learning::new()),
+            opened: false,
+            altered: false,
             fed: 0,
-            force: None,
-            rate: CodeRate(81),
+            nominal,
             sparse: false,
             calls: Calls::new(sink),
             disguise: Random(!seed),
             by_rust: 0,
+            by_opened: 0,
+            looks: 0,
         };
-        let nominal = MODULATIONS.iter().flat_map(|&m| flat(&rust::nominal(m, player.rate)));
-        for (k, v) in (0..).zip(nominal.collect::<Vec<i16>>()) {
+        for (k, v) in (0..).zip(player.nominal.clone()) {
             player.ask(Call::SetNominal { k, v });
         }
         player
@@ -62,7 +69,11 @@ impl<'a> Player<'a> {
     pub fn ask(&mut self, call: Call) -> Numbers {
         let plain = self.disguise.below(4) != 0;
         let numbers = if plain { call.numbers() } else { call.in_disguise(&mut self.disguise) };
+        self.follow_in(&call);
         let told = self.desk.answer(Some(call));
+        if told[0] == 0 {
+            self.go_beside(&call, &told);
+        }
         self.calls.owe(numbers, told);
         told
     }
@@ -80,16 +91,118 @@ impl<'a> Player<'a> {
         assert_eq!(told[0], u64::from(refusal), "THE MODEL IS WRONG: {call:?}");
     }
 
-    /// The model's, and the Rust's.
-    fn agree<T: PartialEq + Debug>(&mut self, model: T, rust: T) {
-        assert!(model == rust, "THE MODEL IS WRONG: {model:?}\nthe Rust:  {rust:?}");
-        self.by_rust += 1;
-    }
-
     pub fn end(mut self) -> Totals {
         self.tell_all();
+        self.look();
         let (calls, refused) = self.calls.end();
-        Totals { calls, by_rust: self.by_rust, refused }
+        let Self { by_rust, by_opened, looks, .. } = self;
+        Totals { calls, by_rust, by_opened, looks, refused }
+    }
+
+    // ---- the Rust beside
+
+    /// Before a call that reads what was learned: the opened Rust is given what was handed in. Before a new state the old one is looked at.
+    fn follow_in(&mut self, call: &Call) {
+        if *call == Call::New {
+            self.look();
+        }
+        let reads = matches!(
+            call,
+            Call::Pilot { .. } | Call::Noise { .. } | Call::Points { .. } | Call::Figure | Call::Next { .. }
+        );
+        if self.altered && reads && RULES.learn_in_range(&self.desk.learn) {
+            self.beside = Box::new(handed_in::learning(&self.desk.learn));
+            (self.opened, self.altered, self.fed) = (true, false, 0);
+            self.put_force();
+        }
+    }
+
+    fn put_force(&mut self) {
+        self.beside.put_force(&self.desk.force, &self.desk.learned);
+    }
+
+    /// The Rust has shown what it makes of all that it was given, and one answer more or none.
+    fn shown(&mut self, more: u64) {
+        let all = std::mem::take(&mut self.fed) + more;
+        *(if self.opened { &mut self.by_opened } else { &mut self.by_rust }) += all;
+    }
+
+    #[track_caller]
+    fn agree<T: PartialEq + Debug>(&mut self, model: T, rust: T) {
+        assert!(model == rust, "THE MODEL IS WRONG: {model:?}\nthe Rust:  {rust:?}");
+        self.shown(1);
+    }
+
+    /// Every number of what was learned is the model's.
+    fn look(&mut self) {
+        if !self.altered {
+            agree_in_learning(&self.beside.shown(), &self.desk.learn);
+            self.looks += 1;
+            self.shown(0);
+        }
+    }
+
+    /// An answer that was not refused.
+    fn go_beside(&mut self, call: &Call, told: &Numbers) {
+        match *call {
+            Call::New => {
+                self.beside = Box::new(Learning::new());
+                (self.opened, self.altered) = (false, false);
+                self.put_force();
+            }
+            Call::PutSum { .. } | Call::PutCount { .. } | Call::PutNoise { .. } => self.altered = true,
+            Call::Default | Call::PutForce(_) | Call::SetLearned { .. } => self.put_force(),
+            Call::Part { bits, .. } => self.part_beside(bits, told),
+            Call::Metric { y, p } => self.agree(told[1] as i64, rust::metric(y, p)),
+            Call::Block(b) => self.block_beside(b, told),
+            _ if !self.altered => self.learning_beside(call, told),
+            Call::Next { .. } | Call::Points { .. } => self.put_force(),
+            _ => {}
+        }
+    }
+
+    fn learning_beside(&mut self, call: &Call, told: &Numbers) {
+        let desk = &self.desk;
+        match *call {
+            Call::Pilot { bits, t, z } => self.beside.pilot(bits, t, z),
+            Call::Noise { y, best } => self.beside.noise(y, best),
+            Call::Points { bits, .. } => {
+                let model = (told[1] == 1).then(|| desk.learned[numbers(bits)].to_vec());
+                self.agree(model, self.beside.points(bits));
+                return self.put_force();
+            }
+            Call::Figure => return self.agree((told[1] == 1).then_some(told[2] as i64), self.beside.n0()),
+            Call::Next { frame, .. } => {
+                self.beside.next(frame);
+                let model = (desk.force, points_of(&desk.force, &desk.learned));
+                return self.agree(model, self.beside.force());
+            }
+            _ => return,
+        }
+        self.fed += 1;
+        if self.fed == 40 {
+            self.look();
+        }
+    }
+
+    /// Where nominal points are chosen, they have to be the Rust's.
+    fn part_beside(&mut self, bits: u64, told: &Numbers) {
+        let desk = &self.desk;
+        if desk.force.learned[bits as usize - 1] || desk.nominal[..NUMBERS] == self.nominal {
+            let points = self.beside.part(bits);
+            self.agree([told[1], told[2]], [points.len() as u64, digest(points)]);
+        }
+    }
+
+    /// Of the Rust, one symbol after the other.
+    fn block_beside(&mut self, b: Block, told: &Numbers) {
+        let points = pairs(&self.desk.nominal[..lent(b.points)]);
+        let symbols = pairs(&self.desk.learned[..lent(b.symbols)]);
+        let mut soft = [85; SOFT];
+        for (y, out) in symbols.into_iter().zip(soft.chunks_exact_mut(b.bits as usize)) {
+            rust::demap(y, &points, b.bits as usize, b.k, out);
+        }
+        self.agree(*told, soft_told(0, b.from, &soft));
     }
 
     // ---- what is kept
@@ -111,32 +224,23 @@ impl<'a> Player<'a> {
         self.slices();
     }
 
-    // ---- with the Rust beside
+    // ---- calls, and their refusals
 
     pub fn new_learn(&mut self) {
         self.ask(Call::New);
-        self.learn = Some(rust::Learn::new());
-        self.fed = 0;
     }
 
     pub fn start(&mut self) {
         self.ask(Call::Default);
-        self.force = Some(rust::InForce::default());
-        self.tell_force();
+        self.ask(Call::Force);
     }
 
-    /// A state of ours: the Rust cannot be given it.
-    pub fn hand_in_learn(&mut self, call: Call) {
-        self.learn = None;
-        self.ask(call);
-    }
-
-    /// A state that these pilots of a set and noise samples lead to, handed in as it stands: the Rust is led there.
+    /// A state that these pilots of a set and noise samples lead to, handed in as it stands: the unchanged Rust is led there.
     pub fn hand_in_led(&mut self, bits: u64, pilots: &[(u64, [i16; 2])], samples: &[([i16; 2], i64)]) {
-        let mut learn = rust::Learn::new();
+        let mut learning = Learning::new();
         let mut sums = vec![([0i64; 2], 0u32); 1 << bits];
         for &(t, z) in pilots {
-            learn.pilot(MODULATIONS[bits as usize - 1], t as usize, z);
+            learning.pilot(bits, t, z);
             let (sum, count) = &mut sums[t as usize % (1 << bits)];
             (sum[0], sum[1], *count) = (sum[0] + i64::from(z[0]), sum[1] + i64::from(z[1]), *count + 1);
         }
@@ -148,121 +252,51 @@ impl<'a> Player<'a> {
         }
         let mut noise = 0;
         for &(y, best) in samples {
-            learn.noise(y, best);
+            learning.noise(y, best);
             noise += i64::from(y[0]).pow(2) + i64::from(y[1]).pow(2) + best;
         }
         self.ask(Call::PutNoise { noise, samples: samples.len() as u32 });
-        (self.learn, self.fed) = (Some(learn), 0);
+        self.beside = Box::new(learning);
+        (self.opened, self.altered, self.fed) = (false, false, 0);
+        self.put_force();
     }
 
-    /// The Rust's fields of what is in force are public; its points are those of the slice.
     pub fn hand_in_force(&mut self, f: Force) {
         self.ask(Call::PutForce(f));
-        let set = |b: usize| pairs(&self.desk.learned[numbers(b as u64 + 1)]);
-        let learned = std::array::from_fn(|b| f.learned[b].then(|| set(b)));
-        self.force = Some(rust::InForce { learned, n0: f.n0, k: f.k, from: f.from });
     }
 
     pub fn pilot(&mut self, bits: u64, t: u64, z: [i16; 2]) -> u64 {
-        let told = self.ask(Call::Pilot { bits, t, z });
-        if let (0, Some(learn)) = (told[0], &mut self.learn) {
-            learn.pilot(MODULATIONS[bits as usize - 1], t as usize, z);
-            self.fed += 1;
-        }
-        told[0]
+        self.ask(Call::Pilot { bits, t, z })[0]
     }
 
     pub fn noise(&mut self, y: [i16; 2], best: i64) -> u64 {
-        let told = self.ask(Call::Noise { y, best });
-        if let (0, Some(learn)) = (told[0], &mut self.learn) {
-            learn.noise(y, best);
-            self.fed += 1;
-        }
-        told[0]
-    }
-
-    /// The Rust has shown what it makes of all that it was given.
-    fn shown(&mut self) {
-        self.by_rust += std::mem::take(&mut self.fed);
+        self.ask(Call::Noise { y, best })[0]
     }
 
     pub fn points(&mut self, bits: u64) -> u64 {
-        let told = self.ask(Call::Points { bits, learned: ALL });
-        if let (0, Some(learn)) = (told[0], &self.learn) {
-            let by_rust = learn.points(MODULATIONS[bits as usize - 1]).map(|p| flat(&p));
-            let part = self.desk.learned[numbers(bits)].to_vec();
-            self.agree((told[1] == 1).then_some(part), by_rust);
-        }
-        told[0]
+        self.ask(Call::Points { bits, learned: ALL })[0]
     }
 
     pub fn figure(&mut self) -> u64 {
-        let told = self.ask(Call::Figure);
-        if let (0, Some(learn)) = (told[0], &self.learn) {
-            let by_rust = learn.n0();
-            self.agree((told[1] == 1).then_some(told[2] as i64), by_rust);
-        }
-        told[0]
-    }
-
-    fn tell_force(&mut self) {
-        self.ask(Call::Force);
-        if let Some(f) = &self.force {
-            let learned = std::array::from_fn(|b| f.learned[b].is_some());
-            let by_rust = Force { learned, n0: f.n0, k: f.k, from: f.from };
-            let model = self.desk.force;
-            self.agree(model, by_rust);
-        }
+        self.ask(Call::Figure)[0]
     }
 
     pub fn next(&mut self, frame: u32) -> u64 {
         let told = self.ask(Call::Next { frame, learned: ALL });
-        if told[0] == 0 {
-            self.force = match (&self.force, &self.learn) {
-                (Some(force), Some(learn)) => Some(force.next(learn, frame)),
-                _ => None,
-            };
-            if self.force.is_some() {
-                self.shown();
-            }
-        }
-        self.tell_force();
+        self.ask(Call::Force);
         self.ask(Call::LearnedDigest);
         told[0]
     }
 
-    /// The points of a set, as a slot of that modulation gets them.
     pub fn part(&mut self, bits: u64) -> u64 {
-        let told = self.ask(Call::Part { bits, learned: ALL, nominal: ALL });
-        if let Some(force) = &self.force {
-            let modulation = MODULATIONS[bits as usize - 1];
-            let (rate, symbols) = (self.rate, 0);
-            let slot = Slot { index: 0, mode: 0, modulation, rate, dummy: false, symbol_start: 0, symbols };
-            let points = flat(&force.points(&slot));
-            self.agree([told[1], told[2]], [points.len() as u64, digest(points.iter().copied())]);
-        }
-        told[0]
+        self.ask(Call::Part { bits, learned: ALL, nominal: ALL })[0]
     }
-
-    // ---- the demapper
 
     pub fn metric(&mut self, y: [i16; 2], p: [i16; 2]) {
-        let told = self.ask(Call::Metric { y, p });
-        self.agree(told[1] as i64, rust::metric(y, p));
+        self.ask(Call::Metric { y, p });
     }
 
-    /// A block: of the Rust, one symbol after the other.
     pub fn block(&mut self, b: Block) -> u64 {
-        let told = self.ask(Call::Block(b));
-        if told[0] == 0 {
-            let points = pairs(&self.desk.nominal[..lent(b.points)]);
-            let symbols = pairs(&self.desk.learned[..lent(b.symbols)]);
-            let mut soft = [85; SOFT];
-            for (y, out) in symbols.into_iter().zip(soft.chunks_exact_mut(b.bits as usize)) {
-                rust::demap(y, &points, b.bits as usize, b.k, out);
-            }
-            self.agree(told, soft_told(0, b.from, &soft));
-        }
-        told[0]
+        self.ask(Call::Block(b))[0]
     }
 }

@@ -3,12 +3,68 @@
 
 use crate::fx::Answer;
 use crate::inputs::{pick, Random};
+use crate::stage::slipped;
 use isdb_frontend::tables::choose_table;
 use isdbs3_phy::chain::{demap as rust, phase, sync};
 use std::f64::consts::TAU;
+use std::sync::OnceLock;
 
 /// The greatest scale.
 pub const TOP: i64 = 1 << 24;
+
+/// Document 01's figures. A slip is another one.
+#[derive(Clone)]
+struct Limits {
+    top: i64,
+    wide: u64,
+    entries: usize,
+    /// The buffer stands before the points, and these before the scale.
+    buffer_first: bool,
+    points_before_scale: bool,
+}
+
+const LIMITS: Limits =
+    Limits { top: TOP, wide: 1 << 60, entries: 1_024, buffer_first: true, points_before_scale: true };
+
+/// Slips of these figures, planted by name in both sides at once (slip.sh): only the Rust, or what the lists below name, can show them.
+const SLIPS: [(&str, fn(&mut Limits)); 6] = [
+    ("scale_over_2_24_in_range", |l| l.top += 1),
+    ("scale_of_2_24_out_of_range", |l| l.top -= 1),
+    ("limit_of_2_61", |l| l.wide = 1 << 61),
+    ("table_of_1023_in_range", |l| l.entries = 1_023),
+    ("points_before_the_buffer", |l| l.buffer_first = false),
+    ("scale_before_the_points", |l| l.points_before_scale = false),
+];
+
+fn limits() -> &'static Limits {
+    static CHOSEN: OnceLock<Limits> = OnceLock::new();
+    CHOSEN.get_or_init(|| slipped(LIMITS, &SLIPS, "SLIP_IN_MODEL"))
+}
+
+/// Demaps with the number that document 01 gives, whatever is stated below: room, bits, numbers of points, scale, refusal or 0.
+pub const ASKED: [(usize, usize, usize, i64, u8); 16] = [
+    (1, 1, 4, 0, 0),
+    (5, 5, 64, TOP, 0),
+    (9, 2, 8, 1, 0),
+    (0, 1, 4, 0, 1),
+    (4, 5, 64, 0, 1),
+    (5, 9, 4, 0, 1),
+    (0, 1, 3, -1, 1),
+    (10, 9, 4, 0, 4),
+    (0, 0, 2, 0, 4),
+    (9, 6, 128, 0, 4),
+    (9, 1, 3, 0, 4),
+    (9, 1, 5, 0, 4),
+    (9, 1, 3, -1, 4),
+    (9, 1, 4, -1, 5),
+    (9, 5, 64, TOP + 1, 5),
+    (9, 3, 16, i64::MIN, 5),
+];
+
+/// The same of `scale_of` and `gain_of`, and of the carrier table that `rotate` is lent.
+pub const ASKED_NUMBERS: [(i64, u8); 6] =
+    [(0, 0), (1 << 60, 0), (-(1 << 60), 0), ((1 << 60) + 1, 6), (-(1 << 60) - 1, 6), (i64::MIN, 6)];
+pub const ASKED_ENTRIES: [(usize, u8); 4] = [(1_024, 0), (1_023, 3), (1, 3), (0, 3)];
 
 /// A demap: all that is given to it.
 #[derive(Debug, Clone)]
@@ -27,15 +83,17 @@ pub fn pairs(numbers: &[i16]) -> Vec<[i16; 2]> {
 
 impl Demap {
     pub fn refusal(&self) -> u8 {
-        if self.out.len() < self.bits {
-            1
-        } else if !(1..=5).contains(&self.bits) || self.points.len() != 2 << self.bits {
-            4
-        } else if !(0..=TOP).contains(&self.k) {
-            5
-        } else {
-            0
+        let no_room = self.out.len() < self.bits;
+        let no_points = !(1..=5).contains(&self.bits) || self.points.len() != 2 << self.bits;
+        let no_scale = !(0..=limits().top).contains(&self.k);
+        let mut places = [(no_room, 1), (no_points, 4), (no_scale, 5)];
+        if !limits().buffer_first {
+            places.swap(0, 1);
         }
+        if !limits().points_before_scale {
+            places.swap(1, 2);
+        }
+        places.into_iter().find(|place| place.0).map_or(0, |place| place.1)
     }
 
     /// The answer, and the buffer afterwards.
@@ -49,7 +107,7 @@ impl Demap {
 }
 
 fn narrow(v: i64, answer: impl FnOnce(i64) -> i64) -> Answer {
-    if v.unsigned_abs() <= 1 << 60 {
+    if v.unsigned_abs() <= limits().wide {
         Answer::one(answer(v))
     } else {
         Answer::refused(6)
@@ -90,7 +148,7 @@ impl Turner {
 
     /// With so many entries of the table lent.
     pub fn rotate(&mut self, phase: u32, freq: i32, x: [i8; 2], lent: usize) -> Rotated {
-        if lent != 1_024 {
+        if !(limits().entries..=1_024).contains(&lent) {
             return Rotated { refusal: 3, phase, turned: [0; 2] };
         }
         (self.nco.phase, self.nco.freq) = (phase, freq);

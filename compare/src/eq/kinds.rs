@@ -5,29 +5,94 @@ use super::desk::Said;
 use super::model::{no_sums, upper, GREATEST, LEAST, LIMIT, RULES, TURN};
 use super::player::Player;
 use crate::inputs::{pick, times, Random, Size};
+use crate::stage::Least;
 
 pub struct Kind {
     pub name: &'static str,
     pub play: fn(&mut Player, &mut Random, Size),
+    pub least: Least,
 }
 
 pub const KINDS: [Kind; 16] = [
-    Kind { name: "first symbols", play: first_symbols },
-    Kind { name: "rounding", play: rounding },
-    Kind { name: "extremes", play: extremes },
-    Kind { name: "short lines", play: short_lines },
-    Kind { name: "limits", play: limits },
-    Kind { name: "counts", play: counts },
-    Kind { name: "solver refusals", play: solver_refusals },
-    Kind { name: "rounded taps", play: rounded_taps },
-    Kind { name: "no such call", play: unknown },
-    Kind { name: "states handed in", play: states_handed_in },
-    Kind { name: "calls at random", play: at_random },
-    Kind { name: "outputs", play: outputs },
-    Kind { name: "trainings", play: trainings },
-    Kind { name: "solved trainings", play: solved_trainings },
-    Kind { name: "systems handed in", play: systems },
-    Kind { name: "close calls", play: close_calls },
+    Kind { name: "first symbols", play: first_symbols, least: &[("by the Rust", 4_200), ("looks at its state", 68)] },
+    Kind { name: "rounding", play: rounding, least: &[("by the Rust", 2_000), ("looks at its state", 32)] },
+    Kind { name: "extremes", play: extremes, least: &[("by the Rust", 45_000), ("looks at its state", 730)] },
+    Kind { name: "short lines", play: short_lines, least: &[("by the Rust", 6_600), ("looks at its state", 100)] },
+    Kind {
+        name: "limits",
+        play: limits,
+        least: &[("by the Rust", 3), ("by the Rust, opened", 2_200), ("looks at its state", 450), ("refused 6", 4_300)],
+    },
+    Kind {
+        name: "counts",
+        play: counts,
+        least: &[("by the Rust", 0), ("by the Rust, opened", 1_500), ("looks at its state", 300), ("refused 8", 450)],
+    },
+    Kind {
+        name: "solver refusals",
+        play: solver_refusals,
+        least: &[
+            ("by the Rust", 460),
+            ("refused 9", 1_800),
+            ("refused 10", 1),
+            ("solved", 460),
+            ("taps alike in a hundred", 100),
+            ("singular", 1),
+        ],
+    },
+    Kind {
+        name: "rounded taps",
+        play: rounded_taps,
+        least: &[("by the Rust", 3_000), ("solved", 3_000), ("taps alike in a hundred", 100)],
+    },
+    Kind { name: "no such call", play: unknown, least: &[("by the Rust", 0), ("refused 255", 500)] },
+    Kind {
+        name: "states handed in",
+        play: states_handed_in,
+        least: &[
+            ("by the Rust", 22_000),
+            ("by the Rust, opened", 43_000),
+            ("looks at its state", 9_000),
+            ("refused 6", 20_000),
+            ("refused 8", 140),
+        ],
+    },
+    Kind {
+        name: "calls at random",
+        play: at_random,
+        least: &[("by the Rust", 500_000), ("looks at its state", 8_100)],
+    },
+    Kind { name: "outputs", play: outputs, least: &[("by the Rust", 250_000), ("looks at its state", 4_100)] },
+    Kind { name: "trainings", play: trainings, least: &[("by the Rust", 370_000), ("looks at its state", 6_100)] },
+    Kind {
+        name: "solved trainings",
+        play: solved_trainings,
+        least: &[
+            ("by the Rust", 340_000),
+            ("looks at its state", 5_500),
+            ("refused 9", 66),
+            ("refused 10", 44),
+            ("solved", 3_800),
+            ("taps alike in a hundred", 100),
+            ("singular", 44),
+        ],
+    },
+    Kind {
+        name: "systems handed in",
+        play: systems,
+        least: &[
+            ("by the Rust", 45_000),
+            ("refused 10", 6_200),
+            ("solved", 38_000),
+            ("taps alike in a hundred", 100),
+            ("singular", 6_200),
+        ],
+    },
+    Kind {
+        name: "close calls",
+        play: close_calls,
+        least: &[("by the Rust", 4_800), ("solved", 5_000), ("taps alike in a hundred", 90)],
+    },
 ];
 
 // ---- numbers
@@ -488,7 +553,7 @@ fn solved_trainings(p: &mut Player, r: &mut Random, size: Size) {
 }
 
 /// Not such as trainings leave: zero rows, rows of one size, ill-conditioned, huge.
-fn any_system(r: &mut Random) -> Sums {
+pub(super) fn any_system(r: &mut Random) -> Sums {
     let mut s = Sums { count: 1 + r.below(6_720) as u32, ..any_sums(r) };
     let kind = r.below(9);
     let bits = 1 + r.below(53) as u64;
@@ -555,6 +620,7 @@ fn systems(p: &mut Player, r: &mut Random, size: Size) {
 }
 
 fn close_calls(p: &mut Player, r: &mut Random, size: Size) {
+    p.expect_close_calls();
     for _ in 0..times(size, [1, 10_000, 250_000]) {
         let s = close_call(r);
         solve(p, &s);

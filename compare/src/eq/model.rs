@@ -44,10 +44,20 @@ pub struct Rules {
     pub closed_unseen: bool,
     /// The fill that is in range.
     pub fill: u32,
+    /// The entries below the diagonal are the conjugates of those above, and so is each on it of what was given.
+    pub lower_turned: bool,
+    pub diagonal_turned: bool,
+    /// The pivot is the greatest; otherwise the first row.
+    pub pivots: bool,
     /// A pivot's least squared magnitude.
     pub tiny: f64,
     /// Of rows of one size the later one is the pivot.
     pub later_row: bool,
+    /// A first row that is no number stays the pivot.
+    pub no_number_stays: bool,
+    /// Each product is rounded, and each part of a quotient is one division.
+    pub products_rounded: bool,
+    pub divides: bool,
     /// The greatest size of a solver's entry.
     pub entry: i64,
     /// A tap's half goes away from zero; otherwise up.
@@ -75,8 +85,14 @@ pub const RULES: Rules = Rules {
     spare: 0,
     closed_unseen: true,
     fill: 11,
+    lower_turned: true,
+    diagonal_turned: true,
+    pivots: true,
     tiny: 1e-24,
     later_row: true,
+    no_number_stays: true,
+    products_rounded: true,
+    divides: true,
     entry: GREATEST,
     halves_away: true,
     lowest_tap: -32_768.0,

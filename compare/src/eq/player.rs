@@ -1,14 +1,18 @@
-//! Makes calls with what each owes, while the Rust's `Equaliser` goes beside them wherever it can be led to the same state:
-//! the model has to agree with it. The model alone answers for refusals, and for states that the Rust cannot be led to.
-//! Taps of the Rust's `solve_sums` are counted beside the model's, and need not agree.
+//! Makes calls with what each owes, while the Rust's `Equaliser` goes beside them in every state that is in range: the model has to agree
+//! with it. The model alone answers for refusals. Taps of the Rust's `solve_sums` have to be the model's too, but where the kind is made of
+//! systems in which `norm` may lead to another pivot: there they may differ if a pivot does.
 
-use super::calls::{Call, Equaliser, Numbers, Pairs, Sums};
+use super::beside::{agree_in_state, can_take, follow, in_state, Beside};
+use super::calls::{Call, Equaliser, Numbers, Sums};
 use super::desk::{Answer, Desk, Said};
-use super::model::{no_sums, RULES};
+use super::slips;
 use crate::inputs::Random;
-use crate::stage::{self, Calls, Sink};
+use crate::stage::{self, Calls, Counted, Sink};
+use crate::unchanged::eq::{pairs, solved_sums};
 use isdbs3_phy::chain::eq as rust;
-use std::fmt::Debug;
+
+/// The whole state is looked at behind one in so many answers of the unchanged Rust, and of its opened copy.
+const LOOKS_EVERY: [u64; 2] = [61, 5];
 
 #[derive(Default, Clone)]
 pub struct Totals {
@@ -23,11 +27,23 @@ pub struct Solved {
     pub both: u64,
     pub agreed: u64,
     pub singular: u64,
-    /// Singular in one of the two.
-    pub split: u64,
     /// The greatest difference of a tap, and the first difference.
     pub most: u32,
     pub first: Option<String>,
+}
+
+impl Counted for Totals {
+    fn named(&self) -> Vec<(String, u64)> {
+        let Solved { both, agreed, singular, .. } = self.solved;
+        let in_a_hundred = 100 * agreed / both.max(1);
+        let more = [
+            ("solved", both),
+            ("taps alike", agreed),
+            ("taps alike in a hundred", in_a_hundred),
+            ("singular", singular),
+        ];
+        self.calls.named().into_iter().chain(more.map(|(name, n)| (name.to_string(), n))).collect()
+    }
 }
 
 impl std::fmt::Display for Totals {
@@ -43,10 +59,10 @@ impl std::fmt::Display for Totals {
 
 impl std::fmt::Display for Solved {
     fn fmt(&self, out: &mut std::fmt::Formatter) -> std::fmt::Result {
-        let Self { both, agreed, singular, split, most, first } = self;
+        let Self { both, agreed, singular, most, first } = self;
         write!(
             out,
-            "solver beside the Rust's: {both} systems solved in both, {agreed} with all taps alike; {singular} singular in both, {split} in one"
+            "solver beside the Rust's: {both} systems solved in both, {agreed} with all taps alike; {singular} singular in both, none in one"
         )?;
         if let Some(first) = first {
             write!(out, "\n  taps differ by up to {most}; the first difference (reported only): {first}")?;
@@ -62,120 +78,36 @@ impl std::ops::AddAssign for Totals {
         all.both += more.both;
         all.agreed += more.agreed;
         all.singular += more.singular;
-        all.split += more.split;
         all.most = all.most.max(more.most);
         all.first = all.first.take().or(more.first);
     }
 }
 
-/// The Rust's equaliser. Its open sums start from nothing: those of `base` came before.
-struct Beside {
-    eq: rust::Equaliser,
-    base: Sums,
-}
-
-pub(crate) fn pairs(l: &Pairs) -> [[i16; 2]; 11] {
-    std::array::from_fn(|k| [l[2 * k], l[2 * k + 1]])
-}
-
-pub(crate) fn rust_sums(s: &Sums) -> rust::Sums {
-    let (frame, count) = (s.frame, s.count);
-    let pairs = |l: &[i64]| l.chunks(2).map(|v| [v[0], v[1]]).collect();
-    rust::Sums { frame, count, r: pairs(&s.r), p: pairs(&s.p) }
-}
-
-impl Beside {
-    /// Led to a state, where calls lead there: the line behind the fill is then zeros.
-    fn led(e: &Equaliser) -> Option<Self> {
-        let filled = e.filled as usize;
-        if !RULES.in_range(e) || e.line[2 * filled..].iter().any(|&v| v != 0) {
-            return None;
-        }
-        let mut eq = rust::Equaliser::new();
-        for &y in pairs(&e.line)[..filled].iter().rev() {
-            eq.push(y);
-        }
-        (eq.taps, eq.taps_from) = (pairs(&e.taps), e.from);
-        if e.opened {
-            eq.open(e.sums.frame);
-        }
-        Some(Self { eq, base: e.sums })
-    }
-
-    fn agree(&self, e: &Equaliser) {
-        agree(pairs(&e.taps), self.eq.taps);
-        agree(e.from, self.eq.taps_from);
-        agree(e.filled >= 11, self.eq.full());
-    }
-
-    fn agree_in_sums(&self, ended: Option<&Sums>, sums: Option<rust::Sums>) {
-        let less = |s: &Sums| {
-            let mut s = *s;
-            s.count -= self.base.count;
-            s.r.iter_mut().zip(&self.base.r).for_each(|(v, b)| *v -= b);
-            s.p.iter_mut().zip(&self.base.p).for_each(|(v, b)| *v -= b);
-            rust_sums(&s)
-        };
-        agree(ended.map(less), sums);
-    }
-
-    /// The same call, which the model took: `e` is what it left, `sums` are those that it closed.
-    fn go(&mut self, call: &Call, said: &Said, e: &Equaliser, sums: &Sums) {
-        match *call {
-            Call::Restart => self.eq.restart(),
-            Call::Push { y } => agree(*said, Said::Symbol(self.eq.push(y))),
-            Call::Output => agree(*said, Said::Symbol(Some(self.eq.output()))),
-            Call::Open { frame } => {
-                self.eq.open(frame);
-                self.base = no_sums(frame);
-            }
-            Call::Train { d } => {
-                self.eq.train(d);
-                self.agree_in_sums(e.opened.then_some(&e.sums), self.eq.clone().close());
-            }
-            Call::Close => {
-                let closed = self.eq.close();
-                agree(*said, Said::Flag(closed.is_some()));
-                self.agree_in_sums(closed.is_some().then_some(sums), closed);
-            }
-            Call::Load { frame, taps } => self.eq.load(pairs(&taps), frame),
-            _ => {}
-        }
-        self.agree(e);
-        if matches!(call, Call::Restart | Call::Open { .. } | Call::Close) {
-            self.agree_in_sums(e.opened.then_some(&e.sums), self.eq.clone().close());
-        }
-    }
-}
-
-#[track_caller]
-pub(crate) fn agree<T: PartialEq + Debug>(model: T, rust: T) {
-    assert!(model == rust, "THE MODEL DIFFERS FROM THE RUST: {model:?} from {rust:?}");
-}
-
 pub struct Player<'a> {
     desk: Desk,
-    rust: Option<Beside>,
+    rust: Option<stage::Beside<dyn Beside>>,
+    /// Systems follow in which the Rust may take another pivot.
+    close_calls: bool,
     /// Of calls that may be left out, one in so many is made.
     every: u64,
     offered: u64,
     calls: Calls<'a>,
     disguise: Random,
-    by_rust: u64,
-    solved: Solved,
+    /// But for calls and refusals, which `calls` counts.
+    totals: Totals,
 }
 
 impl<'a> Player<'a> {
     pub fn new(seed: u64, sink: &'a mut Sink<'a>) -> Self {
         Self {
-            desk: Desk::new(RULES),
+            desk: Desk::new(slips::of_model()),
             rust: None,
+            close_calls: false,
             every: 1,
             offered: 0,
             calls: Calls::new(sink),
             disguise: Random(!seed),
-            by_rust: 0,
-            solved: Solved::default(),
+            totals: Totals::default(),
         }
     }
 
@@ -192,7 +124,8 @@ impl<'a> Player<'a> {
 
     pub fn end(self) -> Totals {
         let (calls, refused) = self.calls.end();
-        Totals { calls: stage::Totals { calls, by_rust: self.by_rust, refused }, solved: self.solved }
+        let Totals { calls: counted, solved } = self.totals;
+        Totals { calls: stage::Totals { calls, refused, ..counted }, solved }
     }
 
     pub fn state(&self) -> &Equaliser {
@@ -203,17 +136,33 @@ impl<'a> Player<'a> {
         &self.desk.sums
     }
 
-    fn go_beside(&mut self, call: &Call, answer: &Answer) {
-        match call {
-            Call::New => self.rust = Some(Beside { eq: rust::Equaliser::new(), base: no_sums(0) }),
-            Call::Solve => return self.solve_beside(answer),
-            _ => {}
+    /// From now on taps may differ from the Rust's where a pivot does.
+    pub fn expect_close_calls(&mut self) {
+        self.close_calls = true;
+    }
+
+    /// The Rust before a call that it takes too, in the state of the model.
+    fn prepare(&mut self, call: &Call) {
+        if call.is_put() {
+            self.rust = None;
+        } else if *call == Call::New {
+            self.rust = Some(stage::Beside::unchanged(Box::new(rust::Equaliser::new())));
+        } else if can_take(call) && self.rust.is_none() {
+            self.rust = in_state(&self.desk.eq);
         }
-        if answer.refusal == 0 {
-            if let Some(beside) = &mut self.rust {
-                beside.go(call, &answer.said, &self.desk.eq, &self.desk.sums);
-                self.by_rust += 1;
-            }
+    }
+
+    fn go_beside(&mut self, call: &Call, answer: &Answer) {
+        if *call == Call::Solve {
+            return self.solve_beside(answer);
+        }
+        let Some(beside) = self.rust.as_mut().filter(|_| can_take(call) && answer.refusal == 0) else { return };
+        follow(beside.rust.as_mut(), call, &answer.said, &self.desk);
+        let counted = &mut self.totals.calls;
+        *(if beside.opened { &mut counted.by_opened } else { &mut counted.by_rust }) += 1;
+        if (counted.by_rust + counted.by_opened) % LOOKS_EVERY[usize::from(beside.opened)] == 0 {
+            agree_in_state(&beside.rust.shown(), &self.desk.eq);
+            counted.looks += 1;
         }
     }
 
@@ -222,38 +171,40 @@ impl<'a> Player<'a> {
         let s = &self.desk.sums;
         if answer.refusal == 9 {
             // of what is refused the Rust refuses no more than count 0
-            assert!(s.count != 0 || rust::solve_sums(&rust_sums(s)).is_none());
+            assert!(s.count != 0 || solved_sums(s).is_none());
             return;
         }
-        let all = &mut self.solved;
-        match (answer.refusal, rust::solve_sums(&rust_sums(s))) {
-            (0, Some(rust)) => {
-                let far = taps.iter().zip(rust.iter().flatten()).map(|(a, b)| u32::from(a.abs_diff(*b)));
-                let far = far.max().expect("taps");
-                all.both += 1;
-                all.agreed += u64::from(far == 0);
-                all.most = all.most.max(far);
-                if far != 0 && all.first.is_none() {
-                    all.first = Some(format!("taps {:?}, the Rust's {rust:?}, of {s:?}", pairs(&taps)));
-                }
-            }
-            (_, None) if answer.refusal != 0 => all.singular += 1,
-            (_, rust) => {
-                all.split += 1;
-                if all.first.is_none() {
-                    all.first = Some(format!("refusal {}, the Rust's {rust:?}, of {s:?}", answer.refusal));
-                }
-            }
+        let (all, rust, refusal) = (&mut self.totals.solved, solved_sums(s), answer.refusal);
+        assert!(
+            (refusal == 0) == rust.is_some(),
+            "THE MODEL IS WRONG: refusal {refusal}\nthe Rust: {rust:?}, of {s:?}"
+        );
+        let Some(rust) = rust else {
+            all.singular += 1;
+            self.totals.calls.by_rust += 1;
+            return;
+        };
+        let far = taps.iter().zip(&rust).map(|(a, b)| u32::from(a.abs_diff(*b))).max().expect("taps");
+        all.both += 1;
+        all.most = all.most.max(far);
+        if far == 0 {
+            all.agreed += 1;
+            self.totals.calls.by_rust += 1;
+        } else {
+            let by_pivot = !self.desk.rules.pivots_as_the_rust(self.desk.rules.equations(s));
+            let (taps, rust) = (pairs(&taps), pairs(&rust));
+            let meant = self.close_calls && by_pivot;
+            assert!(
+                meant,
+                "THE MODEL IS WRONG: taps {taps:?}, another pivot: {by_pivot}\nthe Rust: {rust:?}, of {s:?}"
+            );
+            all.first.get_or_insert_with(|| format!("taps {taps:?}, the Rust's {rust:?}, of {s:?}"));
         }
     }
 
     /// One call in four goes in other numbers than its plain ones.
     pub fn ask(&mut self, call: Call) -> Answer {
-        if call.is_put() {
-            self.rust = None;
-        } else if self.rust.is_none() {
-            self.rust = Beside::led(&self.desk.eq);
-        }
+        self.prepare(&call);
         let plain = self.disguise.below(4) != 0;
         let numbers = if plain { call.numbers() } else { call.in_disguise(&mut self.disguise) };
         let answer = self.desk.answer(Some(call));

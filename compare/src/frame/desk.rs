@@ -2,7 +2,7 @@
 
 use super::calls::{placed, Call, Ones};
 use super::model::{Aligned, Line, Rules, NOWHERE};
-use crate::eq::desk::{of_pairs, of_sums, Desk as EqDesk};
+use crate::eq::desk::{of_pairs, of_sums, Desk as EqDesk, Said};
 use crate::phase::calls::{Corrected, Numbers, Row};
 
 pub struct Desk {
@@ -16,6 +16,8 @@ pub struct Desk {
 pub struct Answer {
     pub refusal: u8,
     pub out: Option<Aligned>,
+    /// What a call of the field `eq` says.
+    pub said: Said,
     pub numbers: Numbers,
 }
 
@@ -72,9 +74,9 @@ impl Desk {
     pub fn answer(&mut self, call: Option<&Call>) -> Answer {
         if let Some(Call::Eq(call)) = call {
             let answer = self.eq.answer(Some(*call));
-            return Answer { refusal: answer.refusal, out: None, numbers: answer.numbers };
+            return Answer { refusal: answer.refusal, out: None, said: answer.said, numbers: answer.numbers };
         }
         let (refusal, out) = call.map_or((255, None), |call| self.done(call));
-        Answer { refusal, out, numbers: self.numbers(refusal, &out) }
+        Answer { refusal, out, said: Said::Flag(false), numbers: self.numbers(refusal, &out) }
     }
 }

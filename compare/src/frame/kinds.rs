@@ -8,34 +8,145 @@ use crate::eq::calls::Call as EqCall;
 use crate::eq::kinds::{any_frame, any_state, any_symbol, any_taps};
 use crate::eq::model::LIMIT;
 use crate::inputs::{pick, times, Random, Size};
+use crate::opened::back::OPEN;
 use crate::phase::calls::{Corrected, Word};
+use crate::stage::Least;
 use std::ops::Range;
 
 pub struct Kind {
     pub name: &'static str,
     pub play: fn(&mut Player, &mut Random, Size),
+    pub least: Least,
 }
 
 pub const KINDS: [Kind; 10] = [
-    Kind { name: "first symbols", play: first_symbols },
-    Kind { name: "gaps", play: gaps },
-    Kind { name: "words", play: words },
-    Kind { name: "limits", play: limits },
-    Kind { name: "counts", play: counts },
-    Kind { name: "states handed in", play: states_handed_in },
-    Kind { name: "calls at random", play: at_random },
-    Kind { name: "no such call", play: unknown },
-    Kind { name: "whole frames", play: frames },
-    Kind { name: "solved frames", play: solved_frames },
+    Kind {
+        name: "first symbols",
+        play: first_symbols,
+        least: &[
+            ("by the Rust", 0),
+            ("by the Rust, opened", 24_000),
+            ("values by the Rust, opened", 7_600),
+            ("looks at its state", 4_900),
+        ],
+    },
+    Kind {
+        name: "gaps",
+        play: gaps,
+        least: &[
+            ("by the Rust", 10_000),
+            ("drops", 1_000),
+            ("pushes without a drop", 8_700),
+            ("loads", 360),
+            ("looks at its state", 970),
+        ],
+    },
+    Kind {
+        name: "words",
+        play: words,
+        least: &[
+            ("by the Rust", 0),
+            ("by the Rust, opened", 380),
+            ("values by the Rust, opened", 80),
+            ("looks at its state", 76),
+            ("refused 2", 140),
+        ],
+    },
+    Kind {
+        name: "limits",
+        play: limits,
+        least: &[
+            ("by the Rust", 0),
+            ("by the Rust, opened", 1_000),
+            ("values by the Rust, opened", 170),
+            ("looks at its state", 200),
+            ("refused 6", 1_400),
+            ("refused 7", 400),
+        ],
+    },
+    Kind {
+        name: "counts",
+        play: counts,
+        least: &[
+            ("by the Rust", 0),
+            ("by the Rust, opened", 2_600),
+            ("values by the Rust, opened", 1_400),
+            ("looks at its state", 530),
+            ("refused 6", 40),
+            ("refused 7", 40),
+            ("refused 8", 80),
+        ],
+    },
+    Kind {
+        name: "states handed in",
+        play: states_handed_in,
+        least: &[
+            ("by the Rust", 0),
+            ("by the Rust, opened", 6_600),
+            ("values by the Rust, opened", 2_400),
+            ("looks at its state", 1_300),
+            ("refused 6", 7_600),
+            ("refused 8", 280),
+        ],
+    },
+    Kind {
+        name: "calls at random",
+        play: at_random,
+        least: &[
+            ("by the Rust", 0),
+            ("by the Rust, opened", 189_000),
+            ("values by the Rust, opened", 59_000),
+            ("looks at its state", 37_000),
+            ("refused 7", 2_800),
+        ],
+    },
+    Kind {
+        name: "no such call",
+        play: unknown,
+        least: &[
+            ("by the Rust", 0),
+            ("by the Rust, opened", 500),
+            ("values by the Rust, opened", 160),
+            ("looks at its state", 100),
+            ("refused 255", 200),
+        ],
+    },
+    Kind {
+        name: "whole frames",
+        play: frames,
+        least: &[
+            ("by the Rust", 2_200_000),
+            ("sums", 1),
+            ("drops", 1),
+            ("pushes without a drop", 1_100_000),
+            ("loads", 11),
+            ("looks at its state", 36_000),
+        ],
+    },
+    Kind {
+        name: "states in Back",
+        play: states_in_back,
+        least: &[
+            ("by the Rust", 0),
+            ("by the Rust, opened", 16_000),
+            ("values by the Rust, opened", 6_300),
+            ("looks at its state", 3_300),
+            ("refused 6", 3_900),
+            ("refused 8", 110),
+        ],
+    },
 ];
 
 // ---- symbols
+
+/// Entries that no word has.
+pub(crate) const NO_ONES: [i8; 6] = [0, 2, -2, 127, -128, 3];
 
 fn any_word(r: &mut Random) -> Word {
     pick(r, &[Word::Ssync, Word::Fsync, Word::NotFsync])
 }
 
-fn any_words(r: &mut Random) -> [Ones; 2] {
+pub(crate) fn any_words(r: &mut Random) -> [Ones; 2] {
     [[0; 48]; 2].map(|ones: Ones| ones.map(|_| pick(r, &[-1, 1])))
 }
 
@@ -164,7 +275,7 @@ fn words(p: &mut Player, r: &mut Random, size: Size) {
         push_on(p, r, 7);
         let good = p.desk().words;
         let mut bad = good;
-        bad.as_flattened_mut()[k] = pick(r, &[0, 2, -2, 127, -128, 3]);
+        bad.as_flattened_mut()[k] = pick(r, &NO_ONES);
         p.refused(Call::Words(bad), 0);
         let c = any_corrected(r, next_at(p));
         p.refused(Call::Push(c), 2);
@@ -287,6 +398,52 @@ fn states_handed_in(p: &mut Player, r: &mut Random, size: Size) {
         p.refused(Call::Push(c), 6);
         p.refused(Call::Push(Corrected { at: TOP, ..c }), 6);
         p.refused(Call::Restart, 6);
+    }
+}
+
+/// A symbol that `Back` takes as it is: of the frame that is open there and no pilot, or one of any slot that neither trains nor shows its
+/// value.
+fn taken_as_it_is(r: &mut Random, at: u64) -> Corrected {
+    let c = any_corrected(r, at);
+    let main = 56 + r.below(9_240) as u16;
+    match r.below(6) {
+        0 => Corrected { slot: c.slot.filter(|(_, frame)| *frame != OPEN), j: main, ..c },
+        1 | 2 => Corrected { slot: Some((1 + r.below(118) as u8, OPEN)), j: main, ..c },
+        _ => Corrected { slot: Some((1 + r.below(119) as u8, OPEN)), j: r.below(24) as u16, ..c },
+    }
+}
+
+/// Any state in range with such symbols, and sums of any entries; then pushes, with a gap or another call between.
+fn states_in_back(p: &mut Player, r: &mut Random, size: Size) {
+    for _ in 0..times(size, [0, 3_000, 100_000]) {
+        start(p, r);
+        for put in EqCall::puts(p.eq(), &any_state(r)) {
+            p.refused(Call::Eq(put), 0);
+        }
+        for k in 0..5 {
+            let at = any_position(r).max(k);
+            p.refused(Call::MoveUp(taken_as_it_is(r, at)), 0);
+        }
+        let last = (r.below(4) != 0).then(|| any_position(r));
+        p.refused(Call::Line { count: 5 - r.positive(2) as u32, last }, 0);
+        for _ in 0..14 {
+            // as far on as those that wait would stand by now
+            let next = next_at(p).max(9);
+            let gap = pick(r, &[next + 1, next.saturating_sub(1), next / 2]);
+            let call = match r.below(24) {
+                0 => Call::Restart,
+                1 => Call::Eq(EqCall::Open { frame: any_frame(r) }),
+                2 => Call::Eq(EqCall::Load { frame: any_frame(r), taps: any_taps(r) }),
+                3 => Call::Eq(EqCall::Close),
+                4 => Call::Push(taken_as_it_is(r, gap)),
+                _ => Call::Push(taken_as_it_is(r, next)),
+            };
+            let in_range = RULES.in_range(p.eq(), &p.desk().line);
+            let refusal = p.ask(call).refusal;
+            // a training may have led a sum out of its range
+            let full = refusal == 8 && p.eq().sums.count == LIMIT;
+            assert!(if in_range { refusal == 0 || full } else { refusal == 6 }, "{refusal}: {call:?}");
+        }
     }
 }
 
@@ -414,16 +571,15 @@ fn frames(p: &mut Player, r: &mut Random, size: Size) {
         gap(p, r, frame + 2);
         p.refused(Call::Restart, 0);
     }
+    (0..times(size, [0, 0, 2])).for_each(|_| solved_frames(p, r));
 }
 
 /// The Rust solves the sums and loads the taps two frames later; the port is given them then.
-fn solved_frames(p: &mut Player, r: &mut Random, size: Size) {
-    for _ in 0..times(size, [0, 0, 2]) {
-        p.beside(any_words(r), true);
-        for frame in 0..7 {
-            part_of_frame(p, r, 0..FRAME, frame, frame % 2 == 0);
-        }
-        // the last five come out behind five more
-        push_on(p, r, 5);
+fn solved_frames(p: &mut Player, r: &mut Random) {
+    p.beside(any_words(r), true);
+    for frame in 0..7 {
+        part_of_frame(p, r, 0..FRAME, frame, frame % 2 == 0);
     }
+    // the last five come out behind five more
+    push_on(p, r, 5);
 }

@@ -25,8 +25,9 @@ pub struct Rules {
     pub newest_value: bool,
     /// It trains behind the newest symbol, not before.
     pub trains_behind: bool,
-    /// Sync symbols: those that train.
+    /// Sync symbols: those that train, in slots with a number and without.
     pub sync: u16,
+    pub unnumbered: bool,
     /// NotFsync is the negated F word.
     pub negated: bool,
     pub words_swapped: bool,
@@ -37,8 +38,9 @@ pub struct Rules {
     pub gap_drops_waiting: bool,
     pub gap_drops_line: bool,
     pub gap_drops_sums: bool,
-    /// A restart forgets the last position.
+    /// A restart forgets the last position, and drops those that wait.
     pub restart_forgets: bool,
+    pub restart_drops_waiting: bool,
     pub places: u16,
     /// Symbols that wait adjoin, so that of place k stands at position k or later.
     pub adjoin: i128,
@@ -62,6 +64,7 @@ pub const RULES: Rules = Rules {
     newest_value: true,
     trains_behind: true,
     sync: 24,
+    unnumbered: true,
     negated: true,
     words_swapped: false,
     low_is_gap: true,
@@ -70,6 +73,7 @@ pub const RULES: Rules = Rules {
     gap_drops_line: true,
     gap_drops_sums: true,
     restart_forgets: true,
+    restart_drops_waiting: true,
     places: 9_296,
     adjoin: 0,
     top: TOP,
@@ -134,7 +138,7 @@ impl Rules {
         }
         self.eq.restart(e);
         let last = line.last.filter(|_| !self.restart_forgets);
-        *line = Line { last, ..self.start() };
+        *line = Line { last, ..if self.restart_drops_waiting { self.start() } else { line.clone() } };
         0
     }
 
@@ -213,7 +217,7 @@ impl Rules {
         c: &Corrected,
         words: &[Ones; 2],
     ) {
-        if oldest.j >= self.sync {
+        if oldest.j >= self.sync || oldest.slot.is_none() && !self.unnumbered {
             return;
         }
         let mut word = if self.own_word { oldest.word } else { c.word };

@@ -1,53 +1,72 @@
-//! Makes calls with what each owes, while the Rust's `Back` goes beside them wherever it can be led to the same state: the
-//! model has to agree with what it shows. That is: the equalised symbols of a whole numbered frame, at its end, the training
-//! sums of one with a layout, the taps in use, and the frames that a gap, a restart or another frame's head drops.
+//! Makes calls with what each owes, while the Rust's `Back` goes beside them: the model has to agree with it. Of the unchanged one, from a new
+//! alignment on, there are to see: the equalised symbols of a whole numbered frame, at its end, the training sums of one with a layout, its
+//! equaliser, and the frames that a gap, a restart or another frame's head drops. Everywhere else goes the opened one, in any state in range,
+//! and shows all that it keeps. The model alone answers for refusals.
 
+use super::beside::Beside;
 use super::calls::{Call, Ones};
 use super::desk::{Answer, Desk};
-use super::model::{Aligned, RULES};
-use crate::eq::calls::{Call as EqCall, Equaliser, Sums};
-use crate::eq::player::{agree, pairs, rust_sums};
+use super::model::RULES;
+use super::slips;
+use crate::eq::beside::{agree, agree_in_state, agree_in_sums, agree_in_taps, can_take, follow};
+use crate::eq::calls::{Call as EqCall, Equaliser};
 use crate::inputs::Random;
+use crate::opened::back::{as_given, Aligner};
 use crate::phase::calls::{Corrected, Numbers};
-use crate::phase::player::rust_word;
-use crate::stage::{Calls, Sink};
-use isdb_frontend::s3sync::choose_words;
-use isdbs3_core::params::{CodeRate, Modulation, SLOTS};
-use isdbs3_core::slots::{choose_layout, Slot};
-use isdbs3_phy::chain::demap::nominal;
-use isdbs3_phy::chain::eq as rust_eq;
-use isdbs3_phy::chain::frame::{part, Back, BackEvent, FrameOut, Part};
-use isdbs3_phy::chain::ldpc::FixedLdpc;
-use isdbs3_phy::chain::phase as rust_phase;
-use isdbs3_phy::chain::sync::SyncStats;
-use isdbs3_phy::chain::EQ_APPLY_FRAMES;
+use crate::stage::{Calls, Counted, Refused, Sink, BY_OPENED, BY_RUST, LOOKS};
+use crate::sync::model::ones;
+use crate::unchanged::eq::pairs;
+use isdbs3_core::params::SLOTS;
 
-/// So many frames behind the one that names it a layout is in force; and the Rust solves in every so many.
-const LAG: u32 = 1;
-const SOLVES: u32 = 2;
 /// Symbols of a frame.
 pub const FRAME: usize = SLOTS * super::PLACES;
+
+/// The equaliser's whole state is looked at behind one in so many pushes of the unchanged Rust, and answers of its opened copy.
+const LOOKS_EVERY: [u64; 2] = [31, 5];
 
 #[derive(Default, Clone)]
 pub struct Totals {
     pub calls: u64,
-    pub refused: u64,
+    pub refused: Refused,
     /// By the Rust: symbols of whole frames, sums, drops, and pushes that dropped nothing while a frame was open.
     pub symbols: u64,
     pub sums: u64,
     pub dropped: u64,
     pub undropped: u64,
     pub loads: u64,
+    /// By its opened copy: calls, and of these pushes that let a symbol's value be seen.
+    pub by_opened: u64,
+    pub values: u64,
+    pub looks: u64,
+}
+
+impl Counted for Totals {
+    fn named(&self) -> Vec<(String, u64)> {
+        let Self { calls, symbols, sums, dropped, undropped, loads, by_opened, values, looks, .. } = *self;
+        let all = [
+            ("calls", calls),
+            (BY_RUST, symbols + sums + dropped + undropped + loads),
+            ("symbols", symbols),
+            ("sums", sums),
+            ("drops", dropped),
+            ("pushes without a drop", undropped),
+            ("loads", loads),
+            (BY_OPENED, by_opened),
+            ("values by the Rust, opened", values),
+            (LOOKS, looks),
+        ];
+        all.map(|(name, n)| (name.to_string(), n)).into_iter().chain(self.refused.named()).collect()
+    }
 }
 
 impl std::fmt::Display for Totals {
     fn fmt(&self, out: &mut std::fmt::Formatter) -> std::fmt::Result {
-        let Self { calls, refused, symbols, sums, dropped, undropped, loads } = self;
-        write!(out, "{calls:>9} calls, {refused:>7} refused")?;
+        let Self { calls, refused, symbols, sums, dropped, undropped, loads, by_opened, values, looks } = self;
+        write!(out, "{calls:>9} calls, {refused}")?;
         if symbols + dropped + undropped != 0 {
             write!(out, "; by the Rust: {symbols} symbols, {sums} frames' sums, {loads} loads, {dropped} drops, none at {undropped} others")?;
         }
-        Ok(())
+        write!(out, "; by it opened: {by_opened} calls, {values} values; {looks} looks at its state")
     }
 }
 
@@ -60,195 +79,43 @@ impl std::ops::AddAssign for Totals {
         self.dropped += more.dropped;
         self.undropped += more.undropped;
         self.loads += more.loads;
-    }
-}
-
-/// The frame that is open in the Rust: its number, its first position, what came out for it.
-struct Open {
-    frame: u32,
-    at: u64,
-    z: Vec<[i16; 2]>,
-}
-
-/// What the Rust has to tell after a push.
-#[derive(PartialEq, Eq, Debug)]
-enum Event {
-    Dropped(u32),
-    Whole(u32),
-}
-
-/// The Rust's back end. Document 01 trains on sync symbols only, the Rust on pilots too: an equaliser of the Rust's beside it
-/// trains on these alone, and what it sums is taken off.
-struct Beside {
-    back: Back,
-    pilots: rust_eq::Equaliser,
-    points: Vec<Vec<[i16; 2]>>,
-    open: Option<Open>,
-    /// Frames that will have a layout.
-    laid: Vec<u32>,
-    /// Taps that the Rust solved and will load, the frame they are of, and the frame that they wait for.
-    pending: Option<([[i16; 2]; 11], u32, u32)>,
-    /// Whether it solves at all, and the frame that it last solved.
-    solves: bool,
-    solved: Option<u32>,
-}
-
-fn rust_corrected(c: &Corrected) -> rust_phase::Corrected {
-    rust_phase::Corrected {
-        at: c.at,
-        word: rust_word(c.word),
-        number: c.slot.map(|s| s.0),
-        frame: c.slot.map(|s| s.1),
-        j: c.j,
-        r: c.r,
-        phi: c.phi,
-        gain: c.gain,
-        y: c.y,
-    }
-}
-
-/// Slots of all modulations without codewords: main symbols then leave no trace, and come in any order.
-fn layout() -> Vec<Slot> {
-    use Modulation::{Apsk16, Apsk32, Bpsk, Psk8, Qpsk};
-    let slot = |index: usize| Slot {
-        index,
-        mode: 0,
-        modulation: [Bpsk, Qpsk, Psk8, Apsk16, Apsk32][index % 5],
-        rate: CodeRate(81),
-        dummy: true,
-        symbol_start: 0,
-        symbols: 0,
-    };
-    (0..SLOTS).map(slot).collect()
-}
-
-/// The first less the second.
-fn less(mut s: rust_eq::Sums, off: &rust_eq::Sums) -> rust_eq::Sums {
-    let parts = |a: &mut Vec<[i64; 2]>, b: &Vec<[i64; 2]>| {
-        a.as_flattened_mut().iter_mut().zip(b.as_flattened()).for_each(|(v, w)| *v -= w);
-    };
-    s.count -= off.count;
-    parts(&mut s.r, &off.r);
-    parts(&mut s.p, &off.p);
-    s
-}
-
-impl Beside {
-    fn new([f, s]: &[Ones; 2], solves: bool) -> Self {
-        let word = |ones: &Ones| std::array::from_fn(|k| [ones[2 * k], ones[2 * k + 1]]);
-        choose_words(word(f), word(s));
-        choose_layout(Some(layout()));
-        let mut back = Back::new(LAG, if solves { SOLVES } else { 0 }, Box::new(FixedLdpc::new()));
-        back.set_trace(true);
-        let points = layout().iter().map(|s| nominal(s.modulation, s.rate)).collect();
-        let pilots = rust_eq::Equaliser::new();
-        Self { back, pilots, points, open: None, laid: Vec::new(), pending: None, solves, solved: None }
-    }
-
-    fn dropped(&mut self) -> Option<Event> {
-        self.laid.clear();
-        self.pilots.restart();
-        self.open.take().map(|open| Event::Dropped(open.frame))
-    }
-
-    fn restart(&mut self, totals: &mut Totals) {
-        let mut told = Vec::new();
-        self.back.restart(&mut told);
-        let expected = self.dropped();
-        totals.dropped += expected.iter().count() as u64;
-        self.agree_in_events(&told, expected.into_iter().collect());
-    }
-
-    fn agree_in_events(&self, told: &[BackEvent], expected: Vec<Event>) {
-        let event = |e: &BackEvent| match e {
-            BackEvent::Dropped { frame } => Event::Dropped(*frame),
-            BackEvent::Frame(out) => Event::Whole(out.frame),
-        };
-        agree(expected, told.iter().map(event).collect());
-        agree(self.open.as_ref().map(|open| open.frame), self.back.open_frame());
-    }
-
-    /// What an aligned symbol does to the frame that is open.
-    fn aligned(&mut self, a: &Aligned, events: &mut Vec<Event>) -> Option<Open> {
-        let (number, frame) = a.place.slot?;
-        if (number, a.place.j) == (0, 0) {
-            events.extend(self.open.take().map(|open| Event::Dropped(open.frame)));
-            self.open = Some(Open { frame, at: a.place.at, z: Vec::with_capacity(FRAME) });
-            self.pilots.open(frame);
-            self.laid.retain(|&laid| laid > frame);
-        }
-        let open = self.open.as_mut().filter(|open| open.frame == frame)?;
-        open.z.push(a.z);
-        if let Part::Pilot(t) = part(a.place.j.into()) {
-            let points = &self.points[usize::from(number)];
-            self.pilots.train(points[t % points.len()]);
-        }
-        let last = (usize::from(number), usize::from(a.place.j)) == (SLOTS - 1, super::PLACES - 1);
-        let open = self.open.take_if(|_| last)?;
-        let whole = open.z.len() == FRAME;
-        events.push(if whole { Event::Whole(frame) } else { Event::Dropped(frame) });
-        whole.then_some(open)
-    }
-
-    /// The same push, which the model took; gives the frame that it ended.
-    fn push(&mut self, c: &Corrected, gap: bool, out: &Option<Aligned>, totals: &mut Totals) -> Option<Box<FrameOut>> {
-        let mut events = Vec::new();
-        let was_open = self.open.is_some();
-        if gap {
-            events.extend(self.dropped());
-        }
-        self.pilots.push(c.y);
-        let ended = out.as_ref().and_then(|a| self.aligned(a, &mut events));
-        let mut told = Vec::new();
-        self.back.push(rust_corrected(c), &|| (SyncStats::default(), 0, 0), &mut told);
-        totals.dropped += events.iter().filter(|e| matches!(e, Event::Dropped(_))).count() as u64;
-        totals.undropped += u64::from(was_open && events.is_empty());
-        self.agree_in_events(&told, events);
-        let open = ended?;
-        let Some(BackEvent::Frame(whole)) = told.pop() else { unreachable!() };
-        let trace = whole.trace.as_ref().expect("a trace");
-        assert_eq!(whole.at, open.at);
-        if let Some(k) = (0..FRAME).find(|&k| open.z[k] != trace.z[k]) {
-            panic!(
-                "THE MODEL DIFFERS FROM THE RUST: symbol {k} of frame {}: {:?} from {:?}",
-                open.frame, open.z[k], trace.z[k]
-            );
-        }
-        totals.symbols += FRAME as u64;
-        self.laid.push(open.frame.wrapping_add(LAG));
-        Some(whole)
-    }
-
-    /// The sums of a whole frame: those of the model, and on top of these the Rust's pilots.
-    fn agree_in_sums(&mut self, whole: &FrameOut, sums: &Sums, totals: &mut Totals) {
-        let pilots = self.pilots.close().expect("open since the frame's head");
-        let told = whole.sums.clone().expect("a layout");
-        agree(rust_sums(sums), less(told.clone(), &pilots));
-        totals.sums += 1;
-        let frame = whole.frame;
-        if self.solves && self.solved.is_none_or(|last| frame.wrapping_sub(last) >= SOLVES) {
-            if let Some(taps) = rust_eq::solve_sums(&told) {
-                self.pending = Some((taps, frame, frame.wrapping_add(EQ_APPLY_FRAMES)));
-                self.solved = Some(frame);
-            }
-        }
+        self.by_opened += more.by_opened;
+        self.values += more.values;
+        self.looks += more.looks;
     }
 }
 
 pub struct Player<'a> {
     desk: Desk,
+    /// The unchanged Rust, from a new alignment on, and its pushes so far.
     rust: Option<Beside>,
+    pushes: u64,
+    /// The opened Rust; whether it has to be handed in what is kept.
+    opened: Aligner,
+    altered: bool,
     calls: Calls<'a>,
     disguise: Random,
     /// But for calls and refusals, which `calls` counts.
     totals: Totals,
 }
 
+/// Whether a call replaces numbers that are kept.
+fn replaces(call: &Call) -> bool {
+    match call {
+        Call::Eq(call) => call.is_put() || *call == EqCall::New,
+        Call::New | Call::Words(_) | Call::MoveUp(_) | Call::Line { .. } => true,
+        Call::Push(_) | Call::Restart => false,
+    }
+}
+
 impl<'a> Player<'a> {
     pub fn new(seed: u64, sink: &'a mut Sink<'a>) -> Self {
         Self {
-            desk: Desk::new(RULES),
+            desk: Desk::new(slips::of_model()),
             rust: None,
+            pushes: 0,
+            opened: Aligner::new(),
+            altered: true,
             calls: Calls::new(sink),
             disguise: Random(!seed),
             totals: Totals::default(),
@@ -289,27 +156,72 @@ impl<'a> Player<'a> {
         answer
     }
 
-    /// The Rust goes along with pushes, restarts and loads; of opened and closed sums it shows what `push` compares.
-    pub fn ask(&mut self, call: Call) -> Answer {
-        if let Call::Push(c) = call {
-            return self.push(c);
+    /// The opened Rust gets what is kept, before a call that it can take.
+    fn prepare(&mut self) {
+        let Desk { eq, line, words, .. } = &self.desk;
+        if self.altered && words.iter().all(ones) && RULES.in_range(&eq.eq, line) {
+            self.opened.hand_in(&eq.eq, line, words);
+            self.altered = false;
         }
-        let answer = self.answered(&call);
-        match (&call, &mut self.rust) {
-            (_, None) => {}
-            (Call::Restart, Some(rust)) if answer.refusal == 0 => rust.restart(&mut self.totals),
-            (Call::Eq(EqCall::Load { taps, .. }), Some(rust)) if answer.refusal == 0 => {
+    }
+
+    /// The opened Rust takes a call that the model took.
+    fn follow(&mut self, call: &Call, answer: &Answer) {
+        let (desk, opened) = (&self.desk, &mut self.opened);
+        match call {
+            Call::Push(c) => {
+                let value = answer.out.filter(|a| Aligner::shows(&a.place)).map(|a| a.z);
+                agree(value, opened.push(c));
+                self.totals.values += u64::from(value.is_some());
+            }
+            Call::Restart => opened.restart(),
+            Call::Eq(call) if can_take(call) => follow(opened.eq(), call, &answer.said, &desk.eq),
+            _ => return,
+        }
+        let waiting = desk.line.places.iter().take(desk.line.count as usize).map(as_given);
+        agree((waiting.collect(), desk.line.last), opened.waiting());
+        agree_in_taps(opened.eq(), &desk.eq.eq);
+        agree_in_sums(opened.eq(), &desk.eq.eq);
+        self.totals.by_opened += 1;
+        if self.totals.by_opened % LOOKS_EVERY[1] == 0 {
+            agree_in_state(&opened.eq().shown(), &desk.eq.eq);
+            self.totals.looks += 1;
+        }
+    }
+
+    /// The unchanged Rust goes along with restarts and loads, too; of opened and closed sums it shows what `push` compares.
+    fn follow_unchanged(&mut self, call: &Call) {
+        match (call, &mut self.rust) {
+            (Call::Restart, Some(rust)) => rust.restart(&mut self.totals),
+            (Call::Eq(EqCall::Load { taps, .. }), Some(rust)) => {
                 rust.back.load_taps(pairs(taps));
                 self.totals.loads += 1;
             }
             (Call::Eq(EqCall::Tell | EqCall::Open { .. } | EqCall::Close | EqCall::Keep), _) => {}
-            (_, Some(_)) if answer.refusal != 0 => {}
             _ => self.rust = None,
+        }
+    }
+
+    pub fn ask(&mut self, call: Call) -> Answer {
+        if let (Call::Push(c), true) = (call, self.rust.is_some()) {
+            return self.push(c);
+        }
+        let unchanged = self.rust.is_some();
+        if unchanged || replaces(&call) {
+            self.altered = true;
+        } else {
+            self.prepare();
+        }
+        let answer = self.answered(&call);
+        if answer.refusal == 0 && unchanged {
+            self.follow_unchanged(&call);
+        } else if answer.refusal == 0 && !self.altered {
+            self.follow(&call, &answer);
         }
         answer
     }
 
-    /// A new alignment, with the Rust beside it.
+    /// A new alignment, with the unchanged Rust beside it.
     pub fn beside(&mut self, words: [Ones; 2], solves: bool) {
         self.ask(Call::Words(words));
         self.ask(Call::New);
@@ -326,6 +238,11 @@ impl<'a> Player<'a> {
         agree(pairs(&e.taps), taps.taps);
         if rust.solves {
             agree(e.from, taps.taps_from);
+        }
+        self.pushes += 1;
+        if self.pushes % LOOKS_EVERY[0] == 0 && ended.is_none() {
+            rust.look(e);
+            self.totals.looks += 1;
         }
         if let Some(whole) = ended.filter(|whole| whole.sums.is_some()) {
             self.answered(&Call::Eq(EqCall::Close));

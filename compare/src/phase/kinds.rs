@@ -4,30 +4,84 @@ use super::calls::{Call, Head, Held, Nco, Steps, Whole, Word};
 use super::model::{END, SLOT};
 use super::player::{ssync, Carrier, Player, Slots, ENTRIES, PLACES};
 use crate::inputs::{by_powers, cosine_table, pick, times, Random, Size};
+use crate::stage::Least;
 
 pub struct Kind {
     pub name: &'static str,
     pub play: fn(&mut Player, &mut Random, Size),
+    pub least: Least,
 }
 
 pub const KINDS: [Kind; 17] = [
-    Kind { name: "bench values", play: bench_values },
-    Kind { name: "gains", play: gains },
-    Kind { name: "settings", play: settings },
-    Kind { name: "carriers handed in", play: carriers_handed_in },
-    Kind { name: "carrier refusals", play: carrier_refusals },
-    Kind { name: "pushes", play: pushes },
-    Kind { name: "slots too short", play: short_slots },
-    Kind { name: "phase refusals", play: phase_refusals },
-    Kind { name: "lengths", play: lengths },
-    Kind { name: "positions", play: positions },
-    Kind { name: "slots handed in", play: slots_handed_in },
-    Kind { name: "no such call", play: unknown },
-    Kind { name: "rotations", play: rotations },
-    Kind { name: "all input symbols", play: all_symbols },
-    Kind { name: "parts of slots", play: parts_of_slots },
-    Kind { name: "whole slots", play: whole_slots },
-    Kind { name: "carrier and slots", play: carrier_and_slots },
+    Kind { name: "bench values", play: bench_values, least: &[("by the Rust", 850), ("looks at its state", 13)] },
+    Kind { name: "gains", play: gains, least: &[("by the Rust", 620_000), ("refused 6", 5_900)] },
+    Kind { name: "settings", play: settings, least: &[("by the Rust", 530_000), ("looks at its state", 8_700)] },
+    Kind {
+        name: "carriers handed in",
+        play: carriers_handed_in,
+        least: &[
+            ("by the Rust", 260_000),
+            ("by the Rust, opened", 17_000),
+            ("looks at its state", 7_900),
+            ("refused 6", 86_000),
+        ],
+    },
+    Kind {
+        name: "carrier refusals",
+        play: carrier_refusals,
+        least: &[("by the Rust", 0), ("refused 3", 5_500), ("refused 6", 23_000), ("refused 7", 3_000)],
+    },
+    Kind {
+        name: "pushes",
+        play: pushes,
+        least: &[
+            ("by the Rust", 4_700),
+            ("by the Rust, opened", 7_900),
+            ("looks at its state", 1_500),
+            ("refused 6", 1),
+        ],
+    },
+    Kind {
+        name: "slots too short",
+        play: short_slots,
+        least: &[("by the Rust", 160_000), ("by the Rust, opened", 9_000), ("looks at its state", 1_300)],
+    },
+    Kind {
+        name: "phase refusals",
+        play: phase_refusals,
+        least: &[("by the Rust", 0), ("refused 1", 1_300), ("refused 6", 51_000), ("refused 7", 6_000)],
+    },
+    Kind {
+        name: "lengths",
+        play: lengths,
+        least: &[
+            ("by the Rust", 0),
+            ("refused 1", 56_000),
+            ("refused 3", 18_000),
+            ("refused 6", 3_000),
+            ("refused 7", 1_000),
+        ],
+    },
+    Kind {
+        name: "positions",
+        play: positions,
+        least: &[("by the Rust", 18_000), ("looks at its state", 18), ("refused 6", 1), ("refused 7", 140_000)],
+    },
+    Kind { name: "slots handed in", play: slots_handed_in, least: &[("by the Rust", 0), ("refused 6", 300_000)] },
+    Kind { name: "no such call", play: unknown, least: &[("by the Rust", 0), ("refused 255", 140)] },
+    Kind { name: "rotations", play: rotations, least: &[("by the Rust", 600_000), ("looks at its state", 9_800)] },
+    Kind {
+        name: "all input symbols",
+        play: all_symbols,
+        least: &[("by the Rust", 1_300_000), ("looks at its state", 21_000)],
+    },
+    Kind { name: "parts of slots", play: parts_of_slots, least: &[("by the Rust", 220_000)] },
+    Kind { name: "whole slots", play: whole_slots, least: &[("by the Rust", 920_000), ("looks at its state", 550)] },
+    Kind {
+        name: "carrier and slots",
+        play: carrier_and_slots,
+        least: &[("by the Rust", 1_000_000), ("looks at its state", 6_400)],
+    },
 ];
 
 const WIDE: i64 = 1 << 60;
@@ -330,7 +384,7 @@ fn pushes(p: &mut Player, r: &mut Random, size: Size) {
             0 => pick(r, &[0, 1, 9_294, 9_295, 9_296]),
             _ => r.below(9_297) as u32,
         };
-        let mut slots = Slots::handed_in(Some(Held { head: any_head(r), count }));
+        let mut slots = Slots::handed_in(p, Some(Held { head: any_head(r), count }));
         for _ in 0..1 + r.below(3) {
             let symbol = any_symbol(r);
             assert_eq!(slots.push(p, symbol), 0);
@@ -377,7 +431,7 @@ fn short_slots(p: &mut Player, r: &mut Random, size: Size) {
     for count in [0, 1, 2, 9_294, 9_295, 9_296] {
         for _ in 0..times(size, [2, 1_000, 20_000]) {
             let head = any_head(r);
-            let mut slots = Slots::handed_in(Some(Held { head, count }));
+            let mut slots = Slots::handed_in(p, Some(Held { head, count }));
             slots.head(p, next_head(&head, r));
             assert_eq!(slots.due.is_some(), count == 9_296);
             assert_eq!(slots.restart(p), 0);

@@ -193,7 +193,7 @@ impl Rules {
         (0, number((2 * 4_555_500_750 + amp).div_euclid(2 * amp)))
     }
 
-    fn phase_in_range(&self, phase: &Phase) -> bool {
+    pub fn phase_in_range(&self, phase: &Phase) -> bool {
         phase.is_none_or(|x| !wide(x.head.amp) && x.head.at < self.end && x.count <= SLOT)
     }
 

@@ -1,14 +1,17 @@
 //! Makes calls with what each owes, while the Rust goes beside them wherever it can be given the same: the model has to
 //! agree with it. The model alone answers for refusals, and for states that the Rust cannot be led to.
 
+use super::beside::{self, agree_in_carrier, agree_in_slot};
 use super::calls::{Answer, Call, Corrected, Head, Held, Nco, Numbers, Phase, Whole, Word, STORE};
 use super::desk::Desk;
 use super::model::{looked_up, RULES, SLOT};
+use super::slips;
 use crate::inputs::Random;
-use crate::stage::{Calls, Sink, Totals};
+use crate::opened::handed_in;
+use crate::stage::{Beside, Calls, Sink, Totals};
 use isdb_frontend::tables::choose_table;
-use isdbs3_phy::chain::phase as rust_phase;
-use isdbs3_phy::chain::sync as rust_sync;
+use isdbs3_phy::chain::phase::{gain_of, SlotPhase};
+use isdbs3_phy::chain::sync::Nco as RustNco;
 use std::fmt::Debug;
 
 /// The right lengths.
@@ -26,12 +29,14 @@ pub struct Player<'a> {
     calls: Calls<'a>,
     disguise: Random,
     by_rust: u64,
+    by_opened: u64,
+    looks: u64,
 }
 
 impl<'a> Player<'a> {
     pub fn new(seed: u64, sink: &'a mut Sink<'a>) -> Self {
         let mut player = Self {
-            desk: Desk::new(RULES),
+            desk: Desk::new(slips::of_model()),
             table: Vec::new(),
             sparse: false,
             every: 1,
@@ -39,6 +44,8 @@ impl<'a> Player<'a> {
             calls: Calls::new(sink),
             disguise: Random(!seed),
             by_rust: 0,
+            by_opened: 0,
+            looks: 0,
         };
         player.set_table(&[0; ENTRIES as usize]);
         player
@@ -86,8 +93,11 @@ impl<'a> Player<'a> {
         if self.offered % self.every != 0 {
             return;
         }
+        let before = matches!(call, Call::Push { .. }).then(|| self.desk.store.clone());
         let answer = self.ask(call);
         assert_eq!(answer.refusal(), refusal, "THE MODEL IS WRONG: {call:?}");
+        let same = before.is_none_or(|before| before == self.desk.store);
+        assert!(refusal == 0 || same, "THE MODEL IS WRONG: a refused push writes the store: {call:?}");
     }
 
     /// Both digests: nothing else was written.
@@ -99,13 +109,26 @@ impl<'a> Player<'a> {
     pub fn end(mut self) -> Totals {
         self.digests();
         let (calls, refused) = self.calls.end();
-        Totals { calls, by_rust: self.by_rust, refused }
+        let Self { by_rust, by_opened, looks, .. } = self;
+        Totals { calls, by_rust, by_opened, looks, refused }
     }
 
     /// The last answer, of the model and of the Rust.
     fn agree<T: PartialEq + Debug>(&mut self, model: T, rust: T) {
+        self.agree_with(false, model, rust);
+    }
+
+    /// .. of the Rust as it is, or with opened fields.
+    fn agree_with<T: PartialEq + Debug>(&mut self, opened: bool, model: T, rust: T) {
         assert!(model == rust, "THE MODEL IS WRONG: {model:?}\nthe Rust:  {rust:?}");
-        self.by_rust += 1;
+        *(if opened { &mut self.by_opened } else { &mut self.by_rust }) += 1;
+    }
+
+    /// Whether the Rust's state is looked at behind this answer: behind one in so many.
+    fn looks_now(&mut self, every: u64) -> bool {
+        let due = (self.by_rust + self.by_opened) % every == 0;
+        self.looks += u64::from(due);
+        due
     }
 
     fn set_entry(&mut self, k: usize) {
@@ -136,32 +159,11 @@ impl<'a> Player<'a> {
     pub fn gain_of(&mut self, amp: i64) -> u64 {
         let answer = self.ask(Call::Gain { amp });
         if amp.unsigned_abs() <= 1 << 60 {
-            self.agree(answer, Answer::Single(0, rust_phase::gain_of(amp) as u64));
+            self.agree(answer, Answer::Single(0, gain_of(amp) as u64));
         } else {
             assert_eq!(answer.refusal(), 6);
         }
         answer.numbers()[1]
-    }
-}
-
-pub(crate) fn rust_word(word: Word) -> rust_sync::Word {
-    match word {
-        Word::Ssync => rust_sync::Word::Ssync,
-        Word::Fsync => rust_sync::Word::Fsync,
-        Word::NotFsync => rust_sync::Word::NotFsync,
-    }
-}
-
-fn rust_head(h: &Head) -> rust_sync::Head {
-    rust_sync::Head {
-        at: h.at,
-        word: rust_word(h.word),
-        corr: h.corr,
-        theta: h.theta,
-        amp: h.amp,
-        number: h.slot.map(|s| s.0),
-        frame: h.slot.map(|s| s.1),
-        nco_phase: h.nco_phase,
     }
 }
 
@@ -175,25 +177,25 @@ pub struct Carrier {
     pub state: Nco,
     /// The last symbol.
     pub turned: [i16; 2],
-    rust: Option<rust_sync::Nco>,
+    beside: Option<Beside<dyn beside::Carrier>>,
 }
 
 /// The Rust's `Nco` in this state, where Ssync heads can lead to it: the turns of the heads have its sum, and end at its
 /// last angle.
-fn led_to(state: &Nco) -> Option<rust_sync::Nco> {
-    let mut nco = rust_sync::Nco::new(state.freq);
+fn led_to(state: &Nco) -> Option<RustNco> {
+    let mut nco = RustNco::new(state.freq);
     if let Some(t) = state.trail {
         let turns = i64::from(t.steps);
         if turns > 59 || t.sum < turns * -(1 << 31) || turns * ((1 << 31) - 1) < t.sum {
             return None;
         }
         let mut theta = t.last.wrapping_sub(t.sum as u32);
-        nco.head(&rust_head(&ssync(theta)));
+        beside::Carrier::head(&mut nco, &ssync(theta));
         let mut left = t.sum;
         for to_go in (1..=turns).rev() {
             theta = theta.wrapping_add((left / to_go) as u32);
             left -= left / to_go;
-            nco.head(&rust_head(&ssync(theta)));
+            beside::Carrier::head(&mut nco, &ssync(theta));
         }
     }
     nco.phase = state.phase;
@@ -202,25 +204,36 @@ fn led_to(state: &Nco) -> Option<rust_sync::Nco> {
 
 impl Carrier {
     pub fn new(p: &mut Player, freq: i32) -> Self {
-        let rust = rust_sync::Nco::new(freq);
+        let rust = RustNco::new(freq);
         let answer = p.ask(Call::NcoNew { freq });
         p.agree(answer, Answer::Nco(0, Nco { phase: rust.phase, freq: rust.freq, trail: None }, [0; 2]));
-        Self { rust: Some(rust), ..Self::handed_in(Nco { phase: 0, freq, trail: None }) }
+        let beside = Some(Beside::unchanged(Box::new(rust) as Box<dyn beside::Carrier>));
+        Self { state: Nco { phase: 0, freq, trail: None }, turned: [0; 2], beside }
     }
 
+    /// The unchanged Rust is led to the state where heads lead there; else its opened copy is given it.
     pub fn handed_in(state: Nco) -> Self {
-        Self { state, turned: [0; 2], rust: led_to(&state) }
+        let led = led_to(&state).map(|nco| Beside::unchanged(Box::new(nco) as Box<dyn beside::Carrier>));
+        let given = || RULES.nco_in_range(&state).then(|| Beside::opened(Box::new(handed_in::nco(&state)) as _));
+        Self { state, turned: [0; 2], beside: led.or_else(given) }
     }
 
     /// What the Rust shows, or nothing where it is not asked.
-    fn answered(&mut self, p: &mut Player, answer: Answer, rust: impl FnOnce(&mut rust_sync::Nco) -> [i64; 2]) -> u8 {
+    fn answered(
+        &mut self,
+        p: &mut Player,
+        answer: Answer,
+        rust: impl FnOnce(&mut dyn beside::Carrier) -> [i64; 2],
+    ) -> u8 {
         let Answer::Nco(refusal, nco, more) = answer else { unreachable!() };
-        if let (0, Some(original)) = (refusal, &mut self.rust) {
-            let by_rust = rust(original);
-            let (phase, freq) = (original.phase, original.freq);
-            p.agree((more, nco.phase, nco.freq), (by_rust, phase, freq));
-        }
         self.state = nco;
+        if let (0, Some(beside)) = (refusal, &mut self.beside) {
+            let by_rust = rust(beside.rust.as_mut());
+            p.agree_with(beside.opened, (more, (nco.phase, nco.freq)), (by_rust, beside.rust.phase_and_step()));
+            if p.looks_now(if beside.opened { 5 } else { 61 }) {
+                agree_in_carrier(&beside.rust.shown(), &nco, &p.table);
+            }
+        }
         refusal
     }
 
@@ -234,7 +247,7 @@ impl Carrier {
 
     pub fn head(&mut self, p: &mut Player, head: Head) -> u8 {
         let answer = p.ask(Call::Hear { nco: self.state, head });
-        self.answered(p, answer, |nco| [nco.head(&rust_head(&head)).into(), 0])
+        self.answered(p, answer, |nco| [nco.head(&head).into(), 0])
     }
 
     pub fn restart(&mut self, p: &mut Player) -> u8 {
@@ -249,40 +262,52 @@ impl Carrier {
 /// A slot's phase, the Rust's beside it, and what a head made of both: the slot that is due, and its corrected symbols.
 pub struct Slots {
     pub state: Phase,
-    rust: Option<rust_phase::SlotPhase>,
+    beside: Option<Beside<dyn beside::Slot>>,
+    /// The program's store has the symbols of the slot.
+    stored: bool,
     pub due: Option<Whole>,
-    corrected: Vec<rust_phase::Corrected>,
+    corrected: Vec<Corrected>,
 }
 
 impl Slots {
+    fn with(state: Phase, beside: Option<Beside<dyn beside::Slot>>) -> Self {
+        Self { state, beside, stored: true, due: None, corrected: Vec::new() }
+    }
+
     pub fn new(p: &mut Player) -> Self {
-        let rust = rust_phase::SlotPhase::new();
+        let rust = SlotPhase::new();
         let answer = p.ask(Call::New);
         assert!(!rust.holding());
         p.agree(answer, Answer::Phase(0, None));
-        Self { state: None, rust: Some(rust), due: None, corrected: Vec::new() }
+        Self::with(None, Some(Beside::unchanged(Box::new(rust))))
     }
 
-    pub fn handed_in(state: Phase) -> Self {
-        Self { state, rust: None, due: None, corrected: Vec::new() }
+    /// The Rust's opened copy is given the same, with the symbols that the program's store has.
+    pub fn handed_in(p: &Player, state: Phase) -> Self {
+        let given = RULES.phase_in_range(&state).then(|| handed_in::slot(&state, &p.desk.store));
+        Self::with(state, given.map(|slot| Beside::opened(Box::new(slot) as _)))
     }
 
     /// A whole slot as it stands before its next head. The program's store needs to hold only the symbols that are looked at.
     pub fn full(head: Head, symbols: &[[i16; 2]]) -> Self {
-        let mut rust = rust_phase::SlotPhase::new();
-        rust.head(rust_head(&head), &mut Vec::new());
+        let mut rust = SlotPhase::new();
+        beside::Slot::head(&mut rust, &head);
         symbols.iter().for_each(|&r| rust.push(r));
-        Self { rust: Some(rust), ..Self::handed_in(Some(Held { head, count: SLOT })) }
+        let whole = Self::with(Some(Held { head, count: SLOT }), Some(Beside::unchanged(Box::new(rust))));
+        Self { stored: false, ..whole }
     }
 
-    fn kept(&mut self, p: &mut Player, answer: Answer, rust: impl FnOnce(&mut rust_phase::SlotPhase)) -> u8 {
+    fn kept(&mut self, p: &mut Player, answer: Answer, rust: impl FnOnce(&mut dyn beside::Slot)) -> u8 {
         let Answer::Phase(refusal, phase) = answer else { unreachable!() };
-        if let (0, Some(original)) = (refusal, &mut self.rust) {
-            rust(original);
-            let holding = original.holding();
-            p.agree(phase.is_some(), holding);
-        }
         self.state = phase;
+        if let (0, Some(beside)) = (refusal, &mut self.beside) {
+            rust(beside.rust.as_mut());
+            let holding = beside.rust.holding();
+            p.agree_with(beside.opened, phase.is_some(), holding);
+            if self.stored && p.looks_now(if beside.opened { 5 } else { 997 }) {
+                agree_in_slot(&beside.rust.shown(), &phase, &p.table, &p.desk.store);
+            }
+        }
         refusal
     }
 
@@ -293,7 +318,7 @@ impl Slots {
 
     pub fn restart(&mut self, p: &mut Player) -> u8 {
         let answer = p.ask(Call::Restart { phase: self.state });
-        self.kept(p, answer, rust_phase::SlotPhase::restart)
+        self.kept(p, answer, |phase| phase.restart())
     }
 
     /// All three answers of a head.
@@ -303,9 +328,9 @@ impl Slots {
         p.ask(Call::Next { phase, head });
         let answer = p.ask(Call::Head { phase, head });
         let mut corrected = Vec::new();
-        let refusal = self.kept(p, answer, |phase| phase.head(rust_head(&head), &mut corrected));
-        if refusal == 0 && self.rust.is_some() {
-            p.agree(due.map_or(0, |_| SLOT as usize), corrected.len());
+        let refusal = self.kept(p, answer, |phase| corrected = phase.head(&head));
+        if let (0, Some(beside)) = (refusal, &self.beside) {
+            p.agree_with(beside.opened, due.map_or(0, |_| SLOT as usize), corrected.len());
         }
         (self.due, self.corrected) = (due, corrected);
         refusal
@@ -315,15 +340,8 @@ impl Slots {
     pub fn correct(&mut self, p: &mut Player, j: u64) -> u8 {
         let slot = self.due.expect("a slot that is due");
         let answer = p.ask(Call::Correct { slot, j, table: ENTRIES, store: PLACES });
-        if let Some(c) = self.corrected.get(j as usize) {
-            let word = match c.word {
-                rust_sync::Word::Ssync => Word::Ssync,
-                rust_sync::Word::Fsync => Word::Fsync,
-                rust_sync::Word::NotFsync => Word::NotFsync,
-            };
-            let slot = c.number.map(|n| (n, c.frame.expect("a frame with each number")));
-            let (at, j, r, phi, gain, y) = (c.at, c.j, c.r, c.phi, c.gain, c.y);
-            p.agree(answer, Answer::Corrected(Corrected { at, word, slot, j, r, phi, gain, y }));
+        if let (Some(c), Some(beside)) = (self.corrected.get(j as usize), &self.beside) {
+            p.agree_with(beside.opened, answer, Answer::Corrected(*c));
         }
         answer.refusal()
     }

@@ -12,6 +12,10 @@ pub const ACC: usize = 9_297;
 pub const STORE: usize = 18_593;
 pub const SOFT: usize = 50_000;
 
+/// Bytes of the input that a feed may be given, and bytes that one call puts there.
+pub const INPUT: usize = 40_000;
+pub const PUT: usize = 176;
+
 /// Symbols of one play.
 pub const PLAY: usize = 72;
 pub type Symbols = [[i8; 2]; PLAY];
@@ -75,6 +79,16 @@ pub enum Call {
         k: u64,
         v: u32,
     },
+    /// Bytes to the input, from this place on.
+    PutInput {
+        k: u64,
+        bytes: [i8; PUT],
+    },
+    /// So many bytes of the input, by one call of `feed`.
+    FeedInput {
+        n: u64,
+        lent: Lent,
+    },
 }
 
 fn symbols(f: &mut Fields) -> Symbols {
@@ -101,6 +115,8 @@ impl Call {
             Call::Play { .. } => 68,
             Call::Feed { .. } => 69,
             Call::SetAcc { .. } => 70,
+            Call::PutInput { .. } => 71,
+            Call::FeedInput { .. } => 72,
         }
     }
 
@@ -129,6 +145,14 @@ impl Call {
                 row.put(n);
                 row.all(lent);
                 row.bytes(symbols.as_flattened().iter().map(|&x| x as u8));
+            }
+            Call::PutInput { k, bytes } => {
+                row.put(k);
+                row.bytes(bytes.map(|x| x as u8));
+            }
+            Call::FeedInput { n, lent } => {
+                row.put(n);
+                row.all(lent);
             }
             Call::End | Call::Look | Call::Tell(_) => {}
         }
@@ -163,6 +187,8 @@ impl Call {
                 }
             }
             70 => Call::SetAcc { k: f.get(), v: f.get() as u32 },
+            71 => Call::PutInput { k: f.get(), bytes: f.bytes().map(|x: u8| x as i8) },
+            72 => Call::FeedInput { n: f.get(), lent: [0; 4].map(|_| f.get()) },
             _ => return EqCall::of_numbers(n).map(Call::Eq),
         })
     }
@@ -182,7 +208,8 @@ impl Call {
             Call::Restart { .. } => vec![WIDE, Field::Unread, WIDE],
             Call::SetTable { .. } => vec![WIDE, Field::Bits(16)],
             Call::SetAcc { .. } => vec![WIDE, Field::Bits(32)],
-            Call::Play { .. } | Call::Feed { .. } => vec![WIDE; 23],
+            Call::Play { .. } | Call::Feed { .. } | Call::PutInput { .. } => vec![WIDE; 23],
+            Call::FeedInput { .. } => vec![WIDE; 5],
             Call::Eq(_) | Call::End | Call::Look => vec![],
         }
     }

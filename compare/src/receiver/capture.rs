@@ -1,7 +1,7 @@
 //! Document 01, "Capture": what a capture holds, where it is refused, and the lines that are printed of it. The symbols are played by the
 //! unchanged stages.
 
-use super::wired::{Event, Points, Receiver, Told};
+use crate::unchanged::wired::{Event, Points, Receiver, Told};
 use isdb_frontend::s3sync::{choose_words, Word as Signs};
 use isdb_frontend::tables::choose_table;
 use isdbs3_phy::chain::frame::{part, Part};

@@ -1,6 +1,6 @@
 //! Altered states and wrong arguments: each number of docs/RANGES.md at the ends of its range and past them, then anything at any moment.
 
-use super::calls::{Call, PLAY, POINTS, RIGHT};
+use super::calls::{Call, INPUT, PLAY, POINTS, PUT, RIGHT};
 use super::kinds::{any_call, any_signal, any_taps, load};
 use super::misfits::{any_receiver, places};
 use super::model::Receiver;
@@ -416,9 +416,10 @@ fn wrong_restart(p: &Player, r: &mut Random) -> Call {
 
 /// A new receiver, with accumulators that may not do; an entry past the end of a store.
 fn wrong_start(p: &mut Player, r: &mut Random) {
-    match r.below(3) {
+    match r.below(4) {
         0 => drop(p.ask(Call::New { at: r.next(), step: r.next() as i32, acc: any_length(r, 9_296) })),
-        1 => drop(p.ask(Call::SetAcc { k: any_length(r, 9_297), v: r.next() as u32 })),
+        1 => drop(p.ask(Call::PutInput { k: any_length(r, INPUT as u64), bytes: [r.next() as i8; PUT] })),
+        2 => drop(p.ask(Call::SetAcc { k: any_length(r, 9_297), v: r.next() as u32 })),
         _ => drop(p.ask(Call::SetTable { k: any_length(r, 1_025).max(1_024), v: r.next() as i16 })),
     }
 }
@@ -427,8 +428,8 @@ fn wrong_start(p: &mut Player, r: &mut Random) {
 fn no_call(p: &mut Player, r: &mut Random) {
     let mut call = [0; 24].map(|_: u64| r.next());
     call[0] = match r.below(3) {
-        0 => pick(r, &[22, 31, 46, 63, 71, 128, 255, 256 + 33, (1 << 32) + 69, u64::MAX]),
-        1 => pick(r, &[22, 46, 71]) + r.below(10) as u64,
+        0 => pick(r, &[22, 31, 46, 63, 73, 128, 255, 256 + 33, (1 << 32) + 69, u64::MAX]),
+        1 => pick(r, &[22, 46, 73]) + r.below(10) as u64,
         _ => call[0] | 128,
     };
     p.unknown(call);

@@ -1,6 +1,6 @@
 //! What the replay program owes for each call, by the model: it keeps a receiver, words, events, sums, the table and the stores, as the program does.
 
-use super::calls::{Call, Lent as Entries, Symbols, ACC, PLAY, SOFT, STORE, TABLE};
+use super::calls::{Call, Lent as Entries, ACC, INPUT, SOFT, STORE, TABLE};
 use super::model::{Answer, Feeding, Lent, Receiver, Rules};
 use crate::eq::calls::Sums;
 use crate::eq::desk::{of_sums, Desk as EqDesk};
@@ -22,6 +22,7 @@ pub struct Desk {
     pub acc: Vec<u32>,
     pub store: Vec<i16>,
     pub soft: Vec<i8>,
+    pub input: Vec<i8>,
 }
 
 fn plain(refusal: u8) -> Numbers {
@@ -88,6 +89,7 @@ impl Desk {
             acc: vec![0; ACC],
             store: vec![0; STORE],
             soft: vec![FILL; SOFT],
+            input: vec![0; INPUT],
         }
     }
 
@@ -104,8 +106,8 @@ impl Desk {
     }
 
     /// Symbols one by one; the state's numbers are tested for each of them, or for the first alone.
-    fn play(&mut self, n: u64, lent: Entries, symbols: &Symbols, each: bool) -> Numbers {
-        let n = n.min(PLAY as u64);
+    fn play(&mut self, n: u64, lent: Entries, symbols: &[[i8; 2]], each: bool) -> Numbers {
+        let n = n.min(symbols.len() as u64);
         let mut used = 0;
         let mut last = Answer::refused(0);
         while used < n && last.quiet() {
@@ -119,9 +121,9 @@ impl Desk {
     }
 
     /// As a play, but a refusal comes only with no symbol taken. An odd last byte is no symbol.
-    fn feed(&mut self, bytes: u64, lent: Entries, symbols: &Symbols) -> Numbers {
+    fn feed(&mut self, bytes: u64, lent: Entries, symbols: &[[i8; 2]]) -> Numbers {
         let Feeding { odd_byte_left, refused_alone, tests_each } = self.receiver.rules.feed;
-        let bytes = bytes.min(2 * PLAY as u64);
+        let bytes = bytes.min(2 * symbols.len() as u64);
         let n = if odd_byte_left { bytes / 2 } else { bytes.div_ceil(2) };
         if n == 0 {
             let refusal = self.standing(lent);
@@ -212,6 +214,14 @@ impl Desk {
             }
             Call::Play { n, lent, symbols } => self.play(n, lent, &symbols, true),
             Call::Feed { n, lent, symbols } => self.feed(n, lent, &symbols),
+            Call::PutInput { k, bytes } => {
+                (k..).zip(bytes).for_each(|(k, x)| set(&mut self.input, k, x));
+                plain(0)
+            }
+            Call::FeedInput { n, lent } => {
+                let symbols: Vec<[i8; 2]> = self.input.chunks(2).map(|x| [x[0], x[1]]).collect();
+                self.feed(n, lent, &symbols)
+            }
             _ => unreachable!("answered above"),
         }
     }

@@ -10,29 +10,264 @@ use crate::demap::soft::any_points;
 use crate::eq::calls::Call as EqCall;
 use crate::frame::calls::Ones;
 use crate::inputs::{cosine_table, pick, times, Random, Size};
+use crate::stage::Least;
 use crate::sync::calls::Event;
 use crate::sync::streams::standard;
 
 pub struct Kind {
     pub name: &'static str,
     pub play: fn(&mut Player, &mut Random, Size),
+    pub least: Least,
 }
 
 /// What tests most in the shortest time comes first.
 pub const KINDS: [Kind; 13] = [
-    Kind { name: "bench values", play: bench_values },
-    Kind { name: "refusals", play: refusals },
-    Kind { name: "damage", play: damage },
-    Kind { name: "states that do not fit", play: misfits },
-    Kind { name: "positions", play: positions },
-    Kind { name: "full sums", play: full_sums },
-    Kind { name: "noise", play: noise },
-    Kind { name: "locked, all bits", play: locked },
-    Kind { name: "offsets 0 and 9,295", play: offsets },
-    Kind { name: "fades and cuts", play: fades },
-    Kind { name: "calls on the way", play: on_the_way },
-    Kind { name: "extreme symbols", play: extremes },
-    Kind { name: "markers and their loss", play: markers },
+    Kind {
+        name: "bench values",
+        play: bench_values,
+        least: &[
+            ("symbols fed", 2_200),
+            ("by the Rust", 4_600),
+            ("periods by the Rust", 1),
+            ("symbols by Chain", 4_600),
+        ],
+    },
+    Kind {
+        name: "refusals",
+        play: refusals,
+        least: &[
+            ("symbols fed", 36),
+            ("by the Rust", 100),
+            ("by the Rust, opened", 1),
+            ("looks at its state", 15),
+            ("symbols by Chain", 100),
+            ("refused 1", 12),
+            ("refused 2", 4),
+            ("refused 3", 1),
+            ("refused 4", 3),
+            ("refused 5", 2),
+            ("refused 7", 1),
+        ],
+    },
+    Kind {
+        name: "damage",
+        play: damage,
+        least: &[
+            ("symbols fed", 120_000),
+            ("heads", 9),
+            ("losses", 1),
+            ("slots", 5),
+            ("feeds that stop before 6", 1),
+            ("long feeds", 36),
+            ("by the Rust", 2_500),
+            ("by the Rust, opened", 180_000),
+            ("looks at its state", 210),
+            ("heads by the Rust, opened", 8),
+            ("slots by the Rust, opened", 5),
+            ("sums by the Rust", 42),
+            ("symbols by Chain", 2_500),
+            ("refused 1", 160),
+            ("refused 2", 91),
+            ("refused 3", 8),
+            ("refused 4", 55),
+            ("refused 5", 21),
+            ("refused 6", 930),
+            ("refused 7", 10),
+            ("refused 255", 50),
+        ],
+    },
+    Kind {
+        name: "states that do not fit",
+        play: misfits,
+        least: &[
+            ("symbols fed", 110_000),
+            ("heads", 390),
+            ("losses", 160),
+            ("slots", 170),
+            ("feeds that stop before 6", 140),
+            ("feeds that stop before 7", 61),
+            ("feeds that stop before 8", 6),
+            ("long feeds", 30),
+            ("by the Rust", 0),
+            ("by the Rust, opened", 120_000),
+            ("looks at its state", 1_200),
+            ("heads by the Rust, opened", 250),
+            ("losses by the Rust, opened", 82),
+            ("slots by the Rust, opened", 100),
+            ("sums by the Rust", 26),
+            ("refused 6", 770),
+            ("refused 7", 380),
+            ("refused 8", 43),
+        ],
+    },
+    Kind {
+        name: "positions",
+        play: positions,
+        least: &[
+            ("symbols fed", 64_000),
+            ("heads", 2),
+            ("slots", 1),
+            ("feeds that stop before 7", 1),
+            ("long feeds", 9),
+            ("long feeds that stop", 1),
+            ("by the Rust", 72_000),
+            ("looks at its state", 33),
+            ("heads by the Rust", 2),
+            ("periods by the Rust", 7),
+            ("slots by the Rust", 1),
+            ("soft values by the Rust", 26_000),
+            ("sums by the Rust", 1),
+            ("trainings by the Rust", 31),
+            ("symbols by Chain", 72_000),
+            ("refused 7", 15),
+        ],
+    },
+    Kind {
+        name: "full sums",
+        play: full_sums,
+        least: &[
+            ("symbols fed", 160_000),
+            ("heads", 9),
+            ("slots", 7),
+            ("feeds that stop before 8", 1),
+            ("long feeds", 26),
+            ("long feeds that stop", 1),
+            ("by the Rust", 130_000),
+            ("by the Rust, opened", 37_000),
+            ("looks at its state", 15),
+            ("heads by the Rust", 6),
+            ("periods by the Rust", 14),
+            ("slots by the Rust", 4),
+            ("soft values by the Rust", 35_000),
+            ("heads by the Rust, opened", 3),
+            ("slots by the Rust, opened", 3),
+            ("sums by the Rust", 2),
+            ("symbols by Chain", 130_000),
+            ("refused 6", 13),
+            ("refused 8", 3),
+        ],
+    },
+    Kind {
+        name: "noise",
+        play: noise,
+        least: &[
+            ("symbols fed", 89_000),
+            ("long feeds", 10),
+            ("by the Rust", 120_000),
+            ("looks at its state", 1),
+            ("periods by the Rust", 12),
+            ("symbols by Chain", 120_000),
+        ],
+    },
+    Kind {
+        name: "locked, all bits",
+        play: locked,
+        least: &[
+            ("symbols fed", 250_000),
+            ("heads", 25),
+            ("slots", 22),
+            ("long feeds", 44),
+            ("by the Rust", 340_000),
+            ("looks at its state", 33),
+            ("heads by the Rust", 25),
+            ("periods by the Rust", 35),
+            ("slots by the Rust", 22),
+            ("soft values by the Rust", 600_000),
+            ("sums by the Rust", 2),
+            ("trainings by the Rust", 520),
+            ("symbols by Chain", 340_000),
+        ],
+    },
+    Kind {
+        name: "offsets 0 and 9,295",
+        play: offsets,
+        least: &[
+            ("symbols fed", 250_000),
+            ("heads", 26),
+            ("losses", 1),
+            ("slots", 23),
+            ("long feeds", 38),
+            ("by the Rust", 330_000),
+            ("looks at its state", 27),
+            ("heads by the Rust", 26),
+            ("periods by the Rust", 33),
+            ("losses by the Rust", 1),
+            ("slots by the Rust", 23),
+            ("soft values by the Rust", 630_000),
+            ("symbols by Chain", 330_000),
+        ],
+    },
+    Kind {
+        name: "fades and cuts",
+        play: fades,
+        least: &[
+            ("symbols fed", 290_000),
+            ("heads", 36),
+            ("losses", 1),
+            ("slots", 33),
+            ("long feeds", 52),
+            ("by the Rust", 420_000),
+            ("looks at its state", 45),
+            ("heads by the Rust", 36),
+            ("periods by the Rust", 44),
+            ("losses by the Rust", 1),
+            ("slots by the Rust", 33),
+            ("soft values by the Rust", 1_200_000),
+            ("sums by the Rust", 1),
+            ("trainings by the Rust", 270),
+            ("symbols by Chain", 420_000),
+        ],
+    },
+    Kind {
+        name: "calls on the way",
+        play: on_the_way,
+        least: &[
+            ("symbols fed", 300_000),
+            ("heads", 16),
+            ("slots", 11),
+            ("long feeds", 69),
+            ("by the Rust", 490_000),
+            ("looks at its state", 36),
+            ("heads by the Rust", 16),
+            ("periods by the Rust", 45),
+            ("slots by the Rust", 11),
+            ("soft values by the Rust", 100_000),
+            ("sums by the Rust", 2),
+            ("trainings by the Rust", 9),
+            ("symbols by Chain", 490_000),
+        ],
+    },
+    Kind {
+        name: "extreme symbols",
+        play: extremes,
+        least: &[
+            ("symbols fed", 100_000),
+            ("long feeds", 17),
+            ("by the Rust", 140_000),
+            ("looks at its state", 1),
+            ("periods by the Rust", 15),
+            ("symbols by Chain", 140_000),
+        ],
+    },
+    Kind {
+        name: "markers and their loss",
+        play: markers,
+        least: &[
+            ("symbols fed", 970_000),
+            ("heads", 130),
+            ("losses", 1),
+            ("slots", 130),
+            ("long feeds", 130),
+            ("by the Rust", 1_200_000),
+            ("looks at its state", 140),
+            ("heads by the Rust", 130),
+            ("periods by the Rust", 130),
+            ("losses by the Rust", 1),
+            ("slots by the Rust", 130),
+            ("soft values by the Rust", 2_300_000),
+            ("symbols by Chain", 1_200_000),
+        ],
+    },
 ];
 
 pub(super) fn random_word(r: &mut Random) -> Ones {
@@ -249,7 +484,26 @@ pub(super) fn any_call(p: &Player, r: &mut Random) -> Call {
     }
 }
 
+/// A restart call among heads: the carrier's differences go, its phase and step stay, and the frame record numbers the next mark.
+fn restarts(p: &mut Player, r: &mut Random) {
+    let mut signal = Signal::new(standard(), 60.0, 1);
+    signal.turn = 1e-6;
+    p.start(&signal.words, &cosine_table(), 1 << 20, 300);
+    for skipped in [0, 3 * 120 * u64::from(SLOT) + 5] {
+        (signal.slot, signal.j) = (107, 8_000);
+        (0..13 * SLOT).for_each(|_| drop(p.push(signal.next(r))));
+        let (trail, record) = (p.desk.receiver.nco.trail, p.desk.receiver.sync.state.record);
+        assert!(trail.is_some() && record.is_some(), "heads, and a mark among them");
+        let at = p.desk.receiver.next() as u64 + skipped;
+        p.refused(Call::Restart { at, acc: 9_296 }, 0);
+        assert_eq!((p.desk.receiver.nco.trail, p.desk.receiver.sync.state.record), (None, record), "a restart");
+    }
+}
+
 fn on_the_way(p: &mut Player, r: &mut Random, size: Size) {
+    if size != Size::Sample {
+        restarts(p, r);
+    }
     for _ in 0..times(size, [0, 2, 100]) {
         let mut signal = any_signal([random_word(r), random_word(r)], 5, r);
         (signal.amplitude, signal.payload) = (55.0, 0.7);
@@ -324,7 +578,9 @@ fn positions(p: &mut Player, r: &mut Random, size: Size) {
         p.start(&words, &cosine_table(), at, 0);
         load(p, 2, 90_000);
         p.refused(Call::Open(1), 0);
+        p.long = turn % 2 == 0;
         while p.push(signal.next(r)).refusal == 0 {}
+        p.long = false;
         for _ in 0..3 {
             p.refuses([5, 5], 7);
         }
@@ -483,7 +739,8 @@ fn full_sums(p: &mut Player, r: &mut Random, size: Size) {
     const LIMIT: u32 = 4_194_304;
     for spare in [16, 23, 24, 40, 21, 25, 17, 39].into_iter().take(times(size, [0, 4, 8]) as usize) {
         let mut signal = Signal::new(standard(), 50.0, 1);
-        (signal.noise, signal.payload, signal.slot) = (1, 0.5, 3);
+        // heads in the midst of a period, so that a long feed comes before each
+        (signal.noise, signal.payload, signal.slot, signal.j) = (1, 0.5, 3, 5_000);
         p.start(&signal.words, &cosine_table(), 1 << 33, 0);
         load(p, 1, 90_000);
         let mut slots = 0;
@@ -491,6 +748,7 @@ fn full_sums(p: &mut Player, r: &mut Random, size: Size) {
         // full for the next slot; or it is taken, and the count behind it is full, or out of range
         let full = if (24..40).contains(&spare) { 6 } else { 8 };
         // up to the slot that finds them full
+        p.long = spare % 2 == 0;
         for _ in 0..(9 + spare / 24) * SLOT {
             let answer = p.push(signal.next(r));
             slots += u32::from(answer.corrected > 0);
@@ -511,6 +769,7 @@ fn full_sums(p: &mut Player, r: &mut Random, size: Size) {
             }
         }
         assert!(refused > 0, "sums that are full");
+        p.long = false;
         p.refused(Call::End, 0);
         p.look();
     }

@@ -14,8 +14,9 @@ use crate::frame::calls::Ones;
 use crate::frame::model::Line;
 use crate::inputs::{cosine_table, pick, times, Random, Size};
 use crate::phase::calls::{Corrected, Head, Held, Nco, Phase, Steps, Word};
+use crate::sync::calls::{Event, Kind};
 use crate::sync::model::{Lock, Reading, Stage, State};
-use crate::sync::streams::{any_state, between};
+use crate::sync::streams::{any_state, between, standard};
 
 const PERIOD: u64 = SLOT as u64;
 
@@ -276,9 +277,41 @@ fn run(p: &mut Player, r: &mut Random, symbols: u64) {
     }
 }
 
+/// Where the Rust overflows, by document 01: the two marker counters stay at 2^32 - 1, and a frame record later than the head counts as gap 0,
+/// which is raised to 1.
+fn ends_of_counts(p: &mut Player, r: &mut Random) {
+    let mut head = |state: State| {
+        let mut x = any_receiver(p, r);
+        (x.sync.state, x.phase) = (state, None);
+        p.hand_in(&x);
+        let Event::Head { at, word, slot, .. } = p.push([100, -90]).events[0] else { panic!("no head") };
+        (at, word, slot, [p.desk.receiver.sync.state.stray, p.desk.receiver.sync.state.missed])
+    };
+    let whole = State {
+        window: std::array::from_fn(|k| 80 * k as i16 - 2_000),
+        t: 23 + 5_000 + 12 * PERIOD,
+        lock: Lock::Locked { offset: 5_000, misses: 0 },
+        stage: Stage::Known { odd: true, due: false, last: [700, -300] },
+        ..State::started(1 << 40, None)
+    };
+    let (at, word, ..) = head(whole);
+    let same = if word == Kind::Fsync { 5 } else { -5 };
+    let full = State { stray: u32::MAX, missed: u32::MAX, ..whole };
+    for (majority, number) in [(-same, 17), (same, 119)] {
+        let (.., counts) = head(State { majority, slot: Some((number, 3)), ..full });
+        assert_eq!(counts, [u32::MAX; 2], "marker counters at their end");
+    }
+    let (.., slot, _) = head(State { majority: -same, slot: Some((119, 3)), record: Some((at + 1, 41)), ..whole });
+    assert_eq!(slot, Some((0, 42)), "a record later than the head");
+}
+
 /// By the symbol's own call and by `feed`, from states that are handed in.
 pub fn misfits(p: &mut Player, r: &mut Random, size: Size) {
     let Told { losses, slots, .. } = p.totals.all;
+    if size != Size::Sample {
+        p.start(&standard(), &cosine_table(), 0, 0);
+        ends_of_counts(p, r);
+    }
     for turn in 0..times(size, [0, 2_500, 100_000]) {
         if turn % 60 == 0 {
             let table = match r.below(8) {

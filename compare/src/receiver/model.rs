@@ -58,6 +58,8 @@ pub struct Rules {
     pub loss_drops_slot: bool,
     pub loss_drops_line: bool,
     pub loss_drops_trail: bool,
+    /// A restart call drops the carrier's differences too.
+    pub restart_drops_trail: bool,
     /// A loss keeps points and taps.
     pub loss_keeps_points: bool,
     /// A slot is given to the alignment before a loss in the same call.
@@ -91,6 +93,7 @@ pub const RULES: Rules = Rules {
     loss_drops_slot: true,
     loss_drops_line: true,
     loss_drops_trail: true,
+    restart_drops_trail: true,
     loss_keeps_points: true,
     slot_before_loss: true,
     range_first: true,
@@ -252,9 +255,12 @@ impl Receiver {
         if !self.in_range() {
             return 6;
         }
-        let refusal = self.sync.restart(at, acc);
+        let refusal = self.sync.restart_refusal(at, acc.len());
         if refusal == 0 {
+            let trail = self.nco.trail.filter(|_| !self.rules.restart_drops_trail);
+            self.sync.restart(at, acc);
             self.restart_others();
+            self.nco.trail = self.nco.trail.or(trail);
         }
         refusal
     }

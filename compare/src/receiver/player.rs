@@ -2,22 +2,23 @@
 //! state the model has to agree with them on every event with all its fields, the runs, the soft bits, the accumulators, the carrier. `Chain`
 //! goes along with them. After a refused call everything is looked at.
 
-use super::beside::Beside;
-use super::calls::{Call, Lent, Symbols, PLAY, RIGHT, SOFT};
+use super::beside::{fits, Rust};
+use super::calls::{Call, Lent, Symbols, INPUT, PLAY, PUT, RIGHT, SOFT};
 use super::desk::{played, Desk};
-use super::model::{Answer, Receiver, RULES};
+use super::model::{Answer, Receiver};
 use super::parts::PARTS;
-use super::wired;
+use super::slips;
 use crate::eq::calls::Call as EqCall;
 use crate::frame::calls::Ones;
 use crate::inputs::{pick, Random};
+use crate::opened::handed_in;
 use crate::phase::calls::Numbers;
-use crate::stage::{Calls, Sink};
-use crate::sync::calls::Event;
-use crate::sync::desk::told;
+use crate::stage::{Calls, Counted, Refused, Sink, BY_OPENED, BY_RUST, LOOKS};
+use crate::sync::calls::{pairs, Event};
+use crate::sync::model::ones;
+use crate::unchanged::receiver::Stages;
 use isdb_frontend::s3sync::choose_words;
 use isdb_frontend::tables::choose_table;
-use isdbs3_phy::chain::sync::SyncEvent;
 
 /// What symbols told.
 #[derive(Default, Clone)]
@@ -60,22 +61,68 @@ impl std::ops::AddAssign for Told {
 #[derive(Default, Clone)]
 pub struct Totals {
     pub calls: u64,
-    pub refused: u64,
+    pub refused: Refused,
     pub all: Told,
     /// Symbols that a feed took, and feeds that stopped before one that is refused with 6, 7 or 8.
     pub fed: u64,
     pub stops: [u64; 3],
+    /// Feeds that took more than a call holds, the symbols that these took, and those among them that stopped.
+    pub long: u64,
+    pub long_fed: u64,
+    pub long_stops: u64,
     pub by_rust: Told,
+    pub by_opened: Told,
+    pub looks: u64,
+    /// Sums that ended, and the trainings of those that were opened while the unchanged Rust went along.
     pub sums: u64,
+    pub trainings: u64,
     /// Symbols that `Chain` went along for.
     pub by_chain: u64,
 }
 
+impl Counted for Totals {
+    fn named(&self) -> Vec<(String, u64)> {
+        let [six, seven, eight] = self.stops;
+        let rust = &self.by_rust;
+        let all = [
+            ("calls", self.calls),
+            ("symbols", self.all.symbols),
+            ("symbols fed", self.fed),
+            ("heads", self.all.heads),
+            ("losses", self.all.losses),
+            ("slots", self.all.slots),
+            ("feeds that stop before 6", six),
+            ("feeds that stop before 7", seven),
+            ("feeds that stop before 8", eight),
+            ("long feeds", self.long),
+            ("symbols of long feeds", self.long_fed),
+            ("long feeds that stop", self.long_stops),
+            (BY_RUST, rust.symbols),
+            (BY_OPENED, self.by_opened.symbols),
+            (LOOKS, self.looks),
+            ("heads by the Rust", rust.heads),
+            ("periods by the Rust", rust.periods),
+            ("losses by the Rust", rust.losses),
+            ("slots by the Rust", rust.slots),
+            ("soft values by the Rust", rust.soft),
+            ("heads by the Rust, opened", self.by_opened.heads),
+            ("losses by the Rust, opened", self.by_opened.losses),
+            ("slots by the Rust, opened", self.by_opened.slots),
+            ("sums by the Rust", self.sums),
+            ("trainings by the Rust", self.trainings),
+            ("symbols by Chain", self.by_chain),
+        ];
+        all.map(|(name, n)| (name.to_string(), n)).into_iter().chain(self.refused.named()).collect()
+    }
+}
+
 impl std::fmt::Display for Totals {
     fn fmt(&self, out: &mut std::fmt::Formatter) -> std::fmt::Result {
-        let Self { calls, refused, all, fed, stops: [six, seven, eight], by_rust: rust, sums, by_chain } = self;
-        write!(out, "{calls:>9} calls, {refused:>7} refused, {:>9} symbols, {fed} by feed, ", all.symbols)?;
+        let Self { calls, refused, all, fed, stops: [six, seven, eight], by_rust: rust, looks, .. } = self;
+        let Self { sums, trainings, by_chain, .. } = self;
+        write!(out, "{calls:>9} calls, {refused}, {:>9} symbols, {fed} by feed, ", all.symbols)?;
         write!(out, "{} heads, {} losses, {} slots", all.heads, all.losses, all.slots)?;
+        write!(out, ", {} long feeds of {} symbols, {} of which stop", self.long, self.long_fed, self.long_stops)?;
         if six + seven + eight != 0 {
             write!(out, ", feeds that stop before 6, 7, 8: {six}, {seven}, {eight}")?;
         }
@@ -84,7 +131,12 @@ impl std::fmt::Display for Totals {
             out,
             "; by the Rust: {symbols} symbols, {heads} heads, {periods} periods, {losses} losses, {slots} slots, "
         )?;
-        write!(out, "{soft} soft values, {sums} sums; by Chain: {by_chain} symbols")
+        write!(out, "{soft} soft values, {sums} sums of {trainings} trainings, {looks} looks at its state; by Chain: {by_chain} symbols; ")?;
+        let Told { symbols, heads, losses, slots, soft, .. } = &self.by_opened;
+        write!(
+            out,
+            "by the Rust opened: {symbols} symbols, {heads} heads, {losses} losses, {slots} slots, {soft} soft values"
+        )
     }
 }
 
@@ -95,33 +147,34 @@ impl std::ops::AddAssign for Totals {
         self.all += more.all;
         self.fed += more.fed;
         self.stops.iter_mut().zip(more.stops).for_each(|(n, more)| *n += more);
+        self.long += more.long;
+        self.long_fed += more.long_fed;
+        self.long_stops += more.long_stops;
         self.by_rust += more.by_rust;
+        self.by_opened += more.by_opened;
+        self.looks += more.looks;
         self.sums += more.sums;
+        self.trainings += more.trainings;
         self.by_chain += more.by_chain;
     }
 }
 
-fn event_of(e: &wired::Event) -> Event {
-    match *e {
-        wired::Event::Head(h) => told(&SyncEvent::Head(h), 0),
-        wired::Event::Period(p) => told(&SyncEvent::Period(p), 0),
-        wired::Event::Lost(at) => told(&SyncEvent::Lost, at),
-    }
-}
-
-/// The unchanged stages.
-struct Rust {
-    wired: wired::Receiver,
-    chain: Beside,
+/// As many as a call holds, from the front.
+fn first(symbols: &[[i8; 2]]) -> Symbols {
+    std::array::from_fn(|k| symbols.get(k).copied().unwrap_or([0; 2]))
 }
 
 pub struct Player<'a> {
     pub desk: Desk,
     lent: Lent,
     rust: Option<Rust>,
+    /// Something was handed in: the opened Rust is made from it before the next call that is accepted.
+    altered: bool,
     /// Symbols that were not played yet, and how many will be played together.
     waiting: Vec<[i8; 2]>,
     group: usize,
+    /// Groups are as long as the input has room for.
+    pub long: bool,
     calls: Calls<'a>,
     random: Random,
     /// But for calls and refusals, which `calls` counts.
@@ -131,11 +184,13 @@ pub struct Player<'a> {
 impl<'a> Player<'a> {
     pub fn new(seed: u64, sink: &'a mut Sink<'a>) -> Self {
         Self {
-            desk: Desk::new(RULES),
+            desk: Desk::new(slips::of_model()),
             lent: RIGHT,
             rust: None,
+            altered: false,
             waiting: Vec::with_capacity(PLAY),
             group: PLAY,
+            long: false,
             calls: Calls::new(sink),
             random: Random(!seed),
             totals: Totals::default(),
@@ -153,18 +208,17 @@ impl<'a> Player<'a> {
         if self.waiting.is_empty() {
             return;
         }
-        let n = self.waiting.len();
-        let mut symbols = [[0; 2]; PLAY];
-        symbols[..n].copy_from_slice(&self.waiting);
-        self.waiting.clear();
+        let mut symbols = std::mem::take(&mut self.waiting);
+        let n = symbols.len();
         let used = n - usize::from(last.refusal != 0);
         // what is told or refused ends it: any more that are given are not taken
-        let more = if last.quiet() { 0 } else { self.random.below((PLAY - n + 1) as u64) as usize };
-        symbols[n..].iter_mut().take(more + 1).for_each(|x| *x = [self.random.next() as i8, self.random.next() as i8]);
+        let room = if n <= PLAY { PLAY } else { n + PLAY };
+        let more = if last.quiet() { 0 } else { self.random.below((room - n + 1) as u64) as usize };
+        symbols.resize_with(n + more + 1, || [self.random.next() as i8, self.random.next() as i8]);
         self.desk.events = last.events;
-        if self.random.below(2) == 0 {
+        if n <= PLAY && self.random.below(2) == 0 {
             let (n, lent) = (self.or_more(n + more, PLAY), self.lent_now());
-            self.calls.owe(Call::Play { n, lent, symbols }.numbers(), played(last, used as u64));
+            self.calls.owe(Call::Play { n, lent, symbols: first(&symbols) }.numbers(), played(last, used as u64));
         } else {
             self.fed(n + more, &symbols, last, used);
         }
@@ -174,32 +228,56 @@ impl<'a> Player<'a> {
         if self.random.below(64) == 0 {
             self.idle();
         }
-        if last.refusal != 0 || last.runs.iter().any(|r| r.count > 0) || self.random.below(512) == 0 {
+        let lost = last.events.iter().any(|e| matches!(e, Event::Lost { .. }));
+        if last.refusal != 0 || lost || last.runs.iter().any(|r| r.count > 0) || self.random.below(512) == 0 {
             self.look();
         }
-        self.group = if self.random.below(4) == 0 { 1 + self.random.below(PLAY as u64) as usize } else { PLAY };
+        self.group = match self.random.below(64) {
+            _ if self.long => INPUT / 2 - PLAY,
+            0 => 1_000 + self.random.below(INPUT as u64 / 2 - 2_000) as usize,
+            1..16 => 1 + self.random.below(PLAY as u64) as usize,
+            _ => PLAY,
+        };
     }
 
     /// The same by `feed`: a refusal comes with no symbol taken, so a refused one is given once more, by either call.
-    fn fed(&mut self, n: usize, symbols: &Symbols, last: &Answer, used: usize) {
+    fn fed(&mut self, n: usize, symbols: &[[i8; 2]], last: &Answer, used: usize) {
         let (lent, stops) = (self.lent_now(), last.refusal != 0 && used > 0);
-        let mut odd = |n: usize| 2 * n + usize::from(n < PLAY && self.random.below(3) == 0);
+        let mut odd = |n: usize| 2 * n + usize::from(self.random.below(3) == 0);
         let (bytes, again) = (odd(n), odd(1) as u64);
-        let bytes = self.or_more(bytes, 2 * PLAY);
         let told = if stops { played(&Answer::refused(0), used as u64) } else { played(last, used as u64) };
-        self.calls.owe(Call::Feed { n: bytes, lent, symbols: *symbols }.numbers(), told);
+        let call = if n <= PLAY {
+            let n = self.or_more(bytes.min(2 * PLAY), 2 * PLAY);
+            Call::Feed { n, lent, symbols: first(symbols) }
+        } else {
+            self.put_input(symbols);
+            (self.totals.long, self.totals.long_fed) = (self.totals.long + 1, self.totals.long_fed + used as u64);
+            self.totals.long_stops += u64::from(stops);
+            // where it is told where to stop, all of the input may be given, and any greater number means that
+            let all = !last.quiet() && self.random.below(4) == 0;
+            Call::FeedInput { n: if all { INPUT as u64 + self.random.positive(62) as u64 } else { bytes as u64 }, lent }
+        };
+        self.calls.owe(call.numbers(), told);
         self.totals.fed += used as u64;
         if stops {
             if let Some(stops) = self.totals.stops.get_mut(usize::from(last.refusal).wrapping_sub(6)) {
                 *stops += 1;
             }
-            let mut one = *symbols;
-            one[0] = symbols[used];
+            let one = first(&symbols[used..]);
             let call = match self.random.below(2) {
                 0 => Call::Play { n: 1, lent, symbols: one },
                 _ => Call::Feed { n: again, lent, symbols: one },
             };
             self.calls.owe(call.numbers(), played(last, 0));
+        }
+    }
+
+    /// More symbols than a call holds go to the input first.
+    fn put_input(&mut self, symbols: &[[i8; 2]]) {
+        for (k, bytes) in (0..).step_by(PUT).zip(symbols.as_flattened().chunks(PUT)) {
+            let mut all = [0; PUT];
+            all[..bytes.len()].copy_from_slice(bytes);
+            self.plain(Call::PutInput { k, bytes: all });
         }
     }
 
@@ -219,7 +297,8 @@ impl<'a> Player<'a> {
     /// A soft buffer that is long enough may have any such length.
     fn lent_now(&mut self) -> Lent {
         let [table, acc, store, soft] = self.lent;
-        let soft = if soft >= 44_880 { pick(&mut self.random, &[soft, 44_880, SOFT as u64]) } else { soft };
+        let any = 44_880 + self.random.below(SOFT as u64 - 44_880 + 1) as u64;
+        let soft = if soft >= 44_880 { pick(&mut self.random, &[soft, 44_880, SOFT as u64, any, any]) } else { soft };
         [table, acc, store, soft]
     }
 
@@ -240,10 +319,30 @@ impl<'a> Player<'a> {
         for part in PARTS {
             self.plain(Call::Tell(part));
         }
-        if let Some(Rust { wired, .. }) = &self.rust {
-            assert_eq!(wired.accumulators(), &self.desk.acc[..9_296], "accumulators");
-            assert_eq!(u128::from(wired.next()), self.desk.receiver.next(), "the next position");
+        self.look_beside();
+    }
+
+    /// The Rust's own states.
+    fn look_beside(&mut self) {
+        if let Some(rust) = &self.rust {
+            rust.agree(&self.desk);
+            self.totals.looks += 1;
         }
+    }
+
+    /// Before a call that may be accepted: the opened Rust is given what was handed in.
+    fn follow_in(&mut self) {
+        if self.altered && fits(&self.desk) {
+            let Desk { receiver, words, table, acc, store, .. } = &self.desk;
+            choose_table(&table[..1_024]);
+            let stages = handed_in::receiver(receiver, words, &acc[..9_296], store);
+            (self.rust, self.altered) = (Some(Rust::new(Box::new(stages), true)), false);
+        }
+    }
+
+    /// The Rust cannot go on as it is.
+    fn alter(&mut self) {
+        (self.rust, self.altered) = (None, true);
     }
 
     /// So many entries are lent from now on.
@@ -254,8 +353,10 @@ impl<'a> Player<'a> {
 
     /// One symbol. It is played with those that wait.
     pub fn push(&mut self, x: [i8; 2]) -> Answer {
+        self.follow_in();
         let answer = self.desk.symbol(x, self.lent);
         self.waiting.push(x);
+        assert!(answer.refusal != 6 || !self.desk.receiver.in_range(), "6, and all numbers are in range");
         if answer.refusal == 0 {
             self.totals.all.count(&answer);
             self.go_beside(x, &answer);
@@ -267,36 +368,26 @@ impl<'a> Player<'a> {
     }
 
     fn go_beside(&mut self, x: [i8; 2], answer: &Answer) {
-        let Some(Rust { wired, chain }) = &mut self.rust else { return };
-        let told = wired.push(x);
-        chain.agrees(x, &told, wired.nco().freq);
-        self.totals.by_chain += 1;
-        self.totals.by_rust.count(answer);
-        let quiet = told.events.is_empty() && told.aligned.is_empty();
-        assert_eq!(quiet, answer.quiet(), "one of them tells something: {told:?} {answer:?}");
-        if quiet {
-            return;
-        }
-        let mut events = [Event::Nothing; 3];
-        for (place, event) in events.iter_mut().zip(&told.events) {
-            *place = event_of(event);
-        }
-        assert_eq!(events, answer.events);
-        for (r, m) in told.runs.iter().zip(&answer.runs) {
-            assert_eq!((r.at, r.j, r.count, r.bits), (m.at, m.j, m.count, m.bits.into()), "runs");
-        }
-        assert_eq!(told.corrected.len(), answer.corrected, "corrected symbols");
+        let Some(rust) = &mut self.rust else { return };
+        let told = rust.push(x);
+        self.totals.by_chain += u64::from(told.chained);
+        (if rust.opened { &mut self.totals.by_opened } else { &mut self.totals.by_rust }).count(answer);
+        assert_eq!((told.events, told.runs), (answer.events, answer.runs), "THE MODEL IS WRONG");
+        assert_eq!(told.corrected, answer.corrected, "corrected symbols");
         assert_eq!(told.soft, self.desk.soft[..answer.soft], "soft bits");
-        let (nco, model) = (wired.nco(), &self.desk.receiver.nco);
-        assert_eq!((nco.phase, nco.freq), (model.phase, model.freq), "the carrier");
+        let nco = &self.desk.receiver.nco;
+        assert_eq!(told.carrier, (nco.phase, nco.freq), "the carrier");
     }
 
     /// Any call but a play. The Rust follows where it can.
     pub fn ask(&mut self, call: Call) -> Numbers {
         self.played(&Answer::refused(0));
+        if matches!(call, Call::Restart { .. } | Call::Points { .. } | Call::Taps { .. } | Call::Open(_) | Call::End) {
+            self.follow_in();
+        }
         let told = self.plain(call);
         self.follow(&call, &told);
-        if told[0] != 0 {
+        if told[0] != 0 || matches!(call, Call::Restart { .. }) {
             self.look();
         }
         told
@@ -329,48 +420,33 @@ impl<'a> Player<'a> {
     }
 
     fn begin(&mut self, at: u64, step: i32) {
-        let right = self.desk.words.as_flattened().iter().all(|one| one.abs() == 1);
-        let word = |w: &Ones| std::array::from_fn(|k| [w[2 * k], w[2 * k + 1]]);
-        choose_words(word(&self.desk.words[0]), word(&self.desk.words[1]));
-        choose_table(&self.desk.table[..1_024]);
-        self.rust = right.then(|| Rust { wired: wired::Receiver::new(at, step), chain: Beside::new(at, step) });
+        self.alter();
+        if self.desk.words.iter().all(ones) {
+            let [f, s] = &self.desk.words;
+            choose_words(pairs(f), pairs(s));
+            choose_table(&self.desk.table[..1_024]);
+            (self.rust, self.altered) = (Some(Rust::new(Box::new(Stages::new(at, step)), false)), false);
+        }
     }
 
     fn follow(&mut self, call: &Call, told: &Numbers) {
         match *call {
             Call::New { at, step, .. } if told[0] == 0 => self.begin(at, step),
             Call::New { .. } | Call::Words(_) | Call::SetTable { .. } | Call::SetAcc { .. } | Call::Put(..) => {
-                self.rust = None
+                self.alter()
             }
-            Call::Eq(call) if call != EqCall::Tell => self.rust = None,
+            Call::Eq(call) if call != EqCall::Tell => self.alter(),
             _ => {}
         }
-        let Some(Rust { wired, chain }) = self.rust.as_mut().filter(|_| told[0] == 0) else { return };
-        match *call {
-            Call::Restart { at, .. } => {
-                wired.restart(at);
-                chain.restart(at);
-            }
-            Call::Points { bits, k, points, .. } => wired.load_points(wired::Points {
-                bits: bits.into(),
-                points: points.chunks(2).take(1 << bits).map(|p| [p[0], p[1]]).collect(),
-                k,
-            }),
-            Call::Taps { frame, taps } => {
-                wired.load_taps(std::array::from_fn(|k| [taps[2 * k], taps[2 * k + 1]]), frame)
-            }
-            Call::Open(frame) => wired.open(frame),
-            Call::End => {
-                let sums = wired.end();
-                assert_eq!(sums.is_some(), told[1] == 1, "sums");
-                let Some(sums) = sums else { return };
+        let Some(rust) = self.rust.as_mut().filter(|_| told[0] == 0) else { return };
+        let sums = rust.follow(call);
+        if let Call::End = call {
+            assert_eq!(sums.is_some(), told[1] == 1, "sums");
+            if let Some(sums) = sums {
                 self.totals.sums += 1;
-                let model = &self.desk.sums;
-                assert_eq!((sums.frame, u64::from(sums.count)), (model.frame, model.count.into()), "sums");
-                assert_eq!(sums.r.as_flattened(), model.r, "upper entries");
-                assert_eq!(sums.p.as_flattened(), model.p, "right-hand entries");
+                self.totals.trainings += if rust.opened { 0 } else { sums.count.into() };
+                assert_eq!(sums, self.desk.sums, "sums");
             }
-            _ => {}
         }
     }
 

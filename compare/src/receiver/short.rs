@@ -1,11 +1,11 @@
 //! Short runs for proofs by computing: calls of a receiver whose slot is cut to a few symbols.
 
+use super::wired::{Points, Symbol};
 use isdb_frontend::s3sync::Word as Signs;
 use isdbs3_core::params::{FSYNC, MOD_SLOT, SSYNC, SYNC_SYMBOLS};
 use isdbs3_phy::chain::sync::word_symbols;
 use isdbs3_phy::eq::TAPS;
 use std::f64::consts::TAU;
-use wired::{Points, Symbol};
 
 pub enum Call {
     /// The symbols so many times.

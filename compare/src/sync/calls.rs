@@ -4,6 +4,10 @@
 /// 24 pairs, I before Q.
 pub type Word = [i8; 48];
 
+pub fn pairs(w: &Word) -> [[i8; 2]; 24] {
+    std::array::from_fn(|k| [w[2 * k], w[2 * k + 1]])
+}
+
 /// Places of the desk's numbers, 32 bits each; a number of 64 bits takes two, the low half first.
 pub mod place {
     pub const F: u32 = 0;

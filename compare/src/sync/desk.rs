@@ -1,76 +1,10 @@
-//! What the replay program owes for each call. While a sync came from `new` and all that it was given can be given to
-//! the Rust, the answers are the Rust's own, and the model has to agree with them; else they are the model's.
+//! What the replay program owes for each call, by the model. The Rust goes beside it wherever it can be given the same, and the model has to
+//! agree with it on every answer, and at each look on every number of the state.
 
-use super::calls::{mixed, place, Answer, Call, Event, Kind, Told, Word, STORE};
-use super::model::{Lock, Reading, Rules, Stage, State, Sync};
-use isdb_frontend::s3sync::choose_words;
-use isdbs3_phy::chain::sync::{SlotSync, SyncEvent, Word as Read};
-
-/// The unchanged Rust, and the position of its next symbol.
-struct Original {
-    sync: SlotSync,
-    next: u64,
-    events: Vec<SyncEvent>,
-}
-
-fn pairs(w: &Word) -> [[i8; 2]; 24] {
-    std::array::from_fn(|k| [w[2 * k], w[2 * k + 1]])
-}
-
-impl Original {
-    fn new(f: &Word, s: &Word, at: u64) -> Option<Self> {
-        if !f.iter().chain(s).all(|v| v.abs() == 1) {
-            return None;
-        }
-        choose_words(pairs(f), pairs(s));
-        let mut sync = SlotSync::new();
-        sync.restart(at);
-        Some(Self { sync, next: at, events: Vec::new() })
-    }
-
-    fn push(&mut self, symbol: [i16; 2]) -> Answer {
-        self.events.clear();
-        self.sync.push(symbol, &mut self.events);
-        self.next += 1;
-        let (f, s, level) = self.sync.last_corr;
-        let mut answer = Answer { refusal: 0, f, s, level, events: [Event::Nothing; 3] };
-        assert!(self.events.len() <= 3, "more than three events");
-        for (place, event) in answer.events.iter_mut().zip(&self.events) {
-            *place = told(event, self.next);
-        }
-        answer
-    }
-}
-
-/// An event of the Rust; a loss restarts at the next symbol's position.
-pub(crate) fn told(event: &SyncEvent, next: u64) -> Event {
-    match event {
-        SyncEvent::Head(h) => Event::Head {
-            at: h.at,
-            word: match h.word {
-                Read::Ssync => Kind::Ssync,
-                Read::Fsync => Kind::Fsync,
-                Read::NotFsync => Kind::NotFsync,
-            },
-            corr: h.corr,
-            theta: h.theta,
-            amp: h.amp,
-            slot: h.number.map(|n| (n, h.frame.expect("a frame with each number"))),
-            nco_phase: h.nco_phase,
-        },
-        SyncEvent::Period(p) => Event::Period {
-            peak: p.peak,
-            place: p.peak_pos,
-            sum: p.sum,
-            locked: p.locked,
-            offset: p.offset,
-            parity: p.ssync_parity,
-            stray: p.stray_markers,
-            missed: p.missed_markers,
-        },
-        SyncEvent::Lost => Event::Lost { at: next },
-    }
-}
+use super::beside::{agree, fits, Beside, More};
+use super::calls::{mixed, place, Answer, Call, Told, Word, STORE};
+use super::model::{ones, Lock, Reading, Rules, Stage, State, Sync, SLOT};
+use crate::{opened, unchanged};
 
 pub struct Desk {
     places: [u32; place::ALL],
@@ -78,13 +12,19 @@ pub struct Desk {
     s: Word,
     store: Vec<u32>,
     pub sync: Sync,
-    original: Option<Original>,
+    beside: Option<Box<dyn Beside>>,
+    more: More,
+    /// The sync beside has opened fields; it has to be made anew from what was handed in.
+    opened: bool,
+    altered: bool,
     /// A stand-in has no use for the Rust.
     alone: bool,
     pub told: Told,
     pub last: Answer,
-    /// Answers of the Rust so far.
+    /// Answers of the Rust so far, of its unchanged files and of the opened ones, and looks at its states.
     pub by_rust: u64,
+    pub by_opened: u64,
+    pub looks: u64,
 }
 
 impl Desk {
@@ -95,11 +35,16 @@ impl Desk {
             s: [1; 48],
             store: vec![0; STORE],
             sync: Sync::new(rules),
-            original: None,
+            beside: None,
+            more: More::default(),
+            opened: false,
+            altered: false,
             alone: false,
             told: [0; 40],
             last: Answer::refused(0),
             by_rust: 0,
+            by_opened: 0,
+            looks: 0,
         }
     }
 
@@ -170,19 +115,59 @@ impl Desk {
         self.sync.state.next()
     }
 
+    /// Every number of the Rust's state is the model's.
+    pub fn look(&mut self) {
+        if let Some(beside) = &self.beside {
+            let (words, acc) = ([&self.f, &self.s], &self.store[..SLOT as usize]);
+            agree(&beside.shown(), &self.sync.state, words, acc, &self.more);
+            self.looks += 1;
+        }
+    }
+
+    /// Something was handed in that the unchanged Rust cannot be given: its opened copy is made from it before the next accepted call.
+    fn alter(&mut self) {
+        self.look();
+        self.beside = None;
+        self.altered = !self.alone;
+    }
+
+    /// The opened Rust in the state that was handed in.
+    fn follow(&mut self) {
+        if std::mem::take(&mut self.altered) && fits(&self.sync.state) {
+            let acc = &self.store[..SLOT as usize];
+            self.beside = Some(Box::new(opened::handed_in::slots(&self.sync.state, &self.f, &self.s, acc)));
+            (self.more, self.opened) = (More::default(), true);
+        }
+    }
+
     pub fn push(&mut self, symbol: [i16; 2]) {
         let lent = self.lent();
         let refusal = self.sync.push_refusal(&self.f, &self.s, lent);
         if refusal != 0 {
             return self.note(Answer::refused(refusal));
         }
+        self.follow();
         let answer = self.sync.push(symbol, &self.f, &self.s, &mut self.store[..lent]);
-        if let Some(original) = &mut self.original {
-            let by_rust = original.push(symbol);
+        if let Some(beside) = &mut self.beside {
+            let by_rust = beside.push(symbol);
             assert!(answer == by_rust, "THE MODEL IS WRONG: {answer:?}\nthe Rust:  {by_rust:?}");
-            self.by_rust += 1;
+            *(if self.opened { &mut self.by_opened } else { &mut self.by_rust }) += 1;
         }
+        self.more.note(&answer);
         self.note(answer);
+    }
+
+    /// One that is accepted.
+    fn restart(&mut self, at: u64) {
+        if ones(&self.f) && ones(&self.s) {
+            self.follow();
+        }
+        self.sync.restart(at, &mut self.store[..SLOT as usize]);
+        if let Some(beside) = &mut self.beside {
+            beside.restart(at);
+            self.more = More::default();
+        }
+        self.look();
     }
 
     /// A call other than a push.
@@ -198,33 +183,35 @@ impl Desk {
             Call::Words => {
                 let words = (self.word(place::F), self.word(place::S));
                 if words != (self.f, self.s) {
-                    self.original = None;
+                    self.alter();
                 }
                 (self.f, self.s) = words;
             }
             Call::New => {
+                self.alter();
                 let refusal = self.sync.start(at, &mut self.store[..lent]);
-                let given = refusal == 0 && !self.alone;
-                self.original = if given { Original::new(&self.f, &self.s, at) } else { None };
+                if refusal == 0 && !self.alone && ones(&self.f) && ones(&self.s) {
+                    self.beside = Some(Box::new(unchanged::sync::Slots::new(&self.f, &self.s, at)));
+                    (self.more, self.opened, self.altered) = (More::default(), false, false);
+                }
                 self.note(Answer::refused(refusal));
             }
             Call::Restart => {
-                let refusal = self.sync.restart(at, &mut self.store[..lent]);
-                if let (0, Some(original)) = (refusal, &mut self.original) {
-                    original.sync.restart(at);
-                    original.next = at;
+                let refusal = self.sync.restart_refusal(at, lent);
+                if refusal == 0 {
+                    self.restart(at);
                 }
                 self.note(Answer::refused(refusal));
             }
             Call::HandIn => {
+                self.alter();
                 self.sync.state = self.state();
-                self.original = None;
             }
             Call::Fold => self.told[0] = self.store.iter().fold(self.told[0], |d, &a| mixed(d, a.into())),
             Call::Set(n, v) => {
-                if let Some(a) = self.store.get_mut(n as usize) {
-                    *a = v;
-                    self.original = None;
+                if self.store.get(n as usize).is_some_and(|a| *a != v) {
+                    self.alter();
+                    self.store[n as usize] = v;
                 }
             }
             Call::Push(n, symbol) => (0..n).for_each(|_| self.push(symbol)),

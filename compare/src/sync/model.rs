@@ -23,11 +23,35 @@ pub struct Rules {
     pub zero_is_fsync: bool,
     /// Of equal margins head zero is Ssync.
     pub tie_is_zero: bool,
+    /// A gap in frames: what is added before the division, its least and its greatest value, and whether the frame number wraps.
+    pub half: u64,
     pub least_gap: u64,
+    pub most_gap: u64,
+    pub frame_wraps: bool,
     pub majority: i32,
     pub marks_from: i32,
+    /// A mark is told by the majority before this head.
+    pub majority_before: bool,
     pub missed_limit: u32,
+    /// A mark at number 0 clears the misses, any other does not; a missed one begins a frame too.
+    pub mark_clears: bool,
+    pub stray_clears: bool,
+    pub missed_begins: bool,
+    /// The number goes on with every head.
+    pub counts_ssync: bool,
+    /// A period without a peak never counts.
+    pub needs_peak: bool,
+    /// A period that counts elsewhere is the first of four; one that does not sets the count to 0.
+    pub moved_counts: u32,
+    pub weak_clears: bool,
+    /// One that counts at the lock clears the missed periods.
+    pub good_clears: bool,
+    /// The accumulator floors.
+    pub floors: bool,
+    /// A position's size is the larger of both words'.
+    pub larger: bool,
     pub restart_zeroes: bool,
+    pub restart_keeps_record: bool,
     pub loss_zeroes: bool,
     /// A loss by markers at 9,295 is followed by a period.
     pub period_after_loss: bool,
@@ -44,11 +68,26 @@ pub const RULES: Rules = Rules {
     head_zero_waits: true,
     zero_is_fsync: true,
     tie_is_zero: true,
+    half: 60 * SLOT,
     least_gap: 1,
+    most_gap: u32::MAX as u64,
+    frame_wraps: true,
     majority: 8,
     marks_from: 2,
+    majority_before: true,
     missed_limit: 2,
+    mark_clears: true,
+    stray_clears: false,
+    missed_begins: true,
+    counts_ssync: true,
+    needs_peak: true,
+    moved_counts: 1,
+    weak_clears: true,
+    good_clears: true,
+    floors: true,
+    larger: true,
     restart_zeroes: true,
+    restart_keeps_record: true,
     loss_zeroes: true,
     period_after_loss: true,
     loss_keeps_record: true,
@@ -162,7 +201,7 @@ fn size(c: [i32; 2]) -> i64 {
     mag_approx(c[0].into(), c[1].into())
 }
 
-fn ones(w: &Word) -> bool {
+pub fn ones(w: &Word) -> bool {
     w.iter().all(|v| v.abs() == 1)
 }
 
@@ -189,19 +228,24 @@ impl Sync {
         0
     }
 
-    pub fn restart(&mut self, at: u64, acc: &mut [u32]) -> u8 {
-        if acc.len() != 9_296 {
+    pub fn restart_refusal(&self, at: u64, lent: usize) -> u8 {
+        if lent != 9_296 {
             1
         } else if !self.state.in_range() {
             6
         } else if u128::from(at) < self.state.next() {
             7
         } else {
-            self.state = State::started(at, self.state.record);
-            if self.rules.restart_zeroes {
-                acc.fill(0);
-            }
             0
+        }
+    }
+
+    /// A restart; without refusal.
+    pub fn restart(&mut self, at: u64, acc: &mut [u32]) {
+        let record = self.state.record.filter(|_| self.rules.restart_keeps_record);
+        self.state = State::started(at, record);
+        if self.rules.restart_zeroes {
+            acc.fill(0);
         }
     }
 
@@ -233,9 +277,8 @@ impl Sync {
         let place = (state.t - 24) % SLOT;
         let at = state.base + (state.t - 24);
         let (cf, cs) = (correlate(&state.window, f), correlate(&state.window, s));
-        let a = &mut acc[place as usize];
-        *a = ((7 * u64::from(*a) + size(cf).max(size(cs)) as u64) / 8) as u32;
-        let level = *a;
+        let level = self.leaked(acc[place as usize], if self.rules.larger { size(cf).max(size(cs)) } else { size(cf) });
+        acc[place as usize] = level;
         self.count(place as u16, level);
         let mut events = Vec::new();
         let locked_here = matches!(self.state.lock, Lock::Locked { offset, .. } if u64::from(offset) == place);
@@ -252,6 +295,11 @@ impl Sync {
             *place = event;
         }
         answer
+    }
+
+    /// "Accumulator: floor((7a + size)/8)."
+    fn leaked(&self, a: u32, size: i64) -> u32 {
+        ((7 * u64::from(a) + size as u64 + if self.rules.floors { 0 } else { 4 }) / 8) as u32
     }
 
     /// The period's figures with one more accumulator.
@@ -281,16 +329,20 @@ impl Sync {
     fn end(&mut self, events: &mut Vec<Event>, acc: &mut [u32]) -> bool {
         let (state, rules) = (&mut self.state, &self.rules);
         let (peak, least) = (u64::from(state.peak) * SLOT, rules.ratio * state.sum);
-        let counts = state.peak > 0 && (peak > least || (rules.equal_counts && peak == least));
+        let counts = (state.peak > 0 || !rules.needs_peak) && (peak > least || (rules.equal_counts && peak == least));
         match &mut state.lock {
             Lock::Search { cand, count } => {
                 let same = *cand == state.place;
-                let n = if !counts {
-                    0
-                } else if same {
-                    *count + 1
-                } else {
-                    1
+                let n = match (counts, same) {
+                    (true, true) => *count + 1,
+                    (true, false) => rules.moved_counts,
+                    (false, _) => {
+                        if rules.weak_clears {
+                            0
+                        } else {
+                            *count
+                        }
+                    }
                 };
                 state.lock = if n >= rules.lock_periods {
                     Lock::Locked { offset: state.place, misses: 0 }
@@ -299,7 +351,16 @@ impl Sync {
                 };
             }
             Lock::Locked { offset, misses } => {
-                *misses = if counts && *offset == state.place { 0 } else { *misses + 1 };
+                *misses = match counts && *offset == state.place {
+                    true => {
+                        if rules.good_clears {
+                            0
+                        } else {
+                            *misses
+                        }
+                    }
+                    false => *misses + 1,
+                };
                 if *misses >= rules.loss_periods {
                     self.lose(events, acc);
                     return true;
@@ -367,7 +428,9 @@ impl Sync {
 
     fn ssync(&mut self, r: Reading, odd: bool, events: &mut Vec<Event>) {
         self.state.stage = Stage::Known { odd, due: false, last: r.s };
-        self.next_number();
+        if self.rules.counts_ssync {
+            self.next_number();
+        }
         events.push(self.head(r.at, Kind::Ssync, r.s));
     }
 
@@ -376,10 +439,11 @@ impl Sync {
         let side = i64::from(r.f[0]) * i64::from(last[0]) + i64::from(r.f[1]) * i64::from(last[1]);
         let positive = side > 0 || (side == 0 && self.rules.zero_is_fsync);
         self.next_number();
-        let majority = self.state.majority;
+        let (before, limit) = (self.state.majority, self.rules.majority);
+        let after = (before + if positive { 1 } else { -1 }).clamp(-limit, limit);
+        let majority = if self.rules.majority_before { before } else { after };
         let marked = majority.abs() >= self.rules.marks_from && (majority > 0) != positive;
-        let limit = self.rules.majority;
-        self.state.majority = (majority + if positive { 1 } else { -1 }).clamp(-limit, limit);
+        self.state.majority = after;
         if self.marked(marked, r.at) {
             return true;
         }
@@ -395,7 +459,9 @@ impl Sync {
         match (self.state.slot, marked) {
             (None, true) => self.frame(at),
             (Some((0, _)), true) => {
-                self.state.misses = 0;
+                if self.rules.mark_clears {
+                    self.state.misses = 0;
+                }
                 self.frame(at);
             }
             (Some((0, _)), false) => {
@@ -404,18 +470,31 @@ impl Sync {
                 if self.state.misses >= self.rules.missed_limit {
                     return true;
                 }
-                self.frame(at);
+                if self.rules.missed_begins {
+                    self.frame(at);
+                }
             }
-            (Some(_), true) => tick(&mut self.state.stray),
+            (Some(_), true) => {
+                tick(&mut self.state.stray);
+                if self.rules.stray_clears {
+                    self.state.misses = 0;
+                }
+            }
             (_, false) => {}
         }
         false
     }
 
     fn frame(&mut self, at: u64) {
+        let rules = &self.rules;
         let frame = self.state.record.map_or(0, |(last, frame)| {
-            let gap = (at.saturating_sub(last) + 60 * SLOT) / (120 * SLOT);
-            frame.wrapping_add(gap.clamp(self.rules.least_gap, u32::MAX.into()) as u32)
+            let gap = (at.saturating_sub(last) + rules.half) / (120 * SLOT);
+            let gap = gap.max(rules.least_gap).min(rules.most_gap) as u32;
+            if rules.frame_wraps {
+                frame.wrapping_add(gap)
+            } else {
+                frame.saturating_add(gap)
+            }
         });
         self.state.record = Some((at, frame));
         self.state.slot = Some((0, frame));

@@ -2,8 +2,10 @@
 
 use super::calls::{place, Answer, Call, Event, Told, Word};
 use super::desk::Desk;
-use super::model::{Lock, Reading, Stage, State, RULES};
+use super::model::{Lock, Reading, Stage, State};
+use super::slips;
 use crate::blocks::{Blocks, Sink};
+use crate::stage::{Counted, Refused, BY_OPENED, BY_RUST, LOOKS};
 
 /// When an answer is told. The digest holds all of them, told or not.
 #[derive(Clone, Copy)]
@@ -31,8 +33,9 @@ pub struct Player<'a> {
     blocks: Blocks<'a, Owed>,
     pub pushes: u64,
     pub events: u64,
+    pub heads: u64,
     pub losses: u64,
-    pub refused: u64,
+    pub refused: Refused,
     told_at: u64,
     /// A run of equal symbols that is not written yet.
     run: u32,
@@ -44,13 +47,14 @@ pub struct Player<'a> {
 impl<'a> Player<'a> {
     pub fn new(telling: Telling, sink: &'a mut Sink<'a, Owed>) -> Self {
         let mut player = Self {
-            desk: Desk::new(RULES),
+            desk: Desk::new(slips::of_model()),
             telling,
             blocks: Blocks::new(sink),
             pushes: 0,
             events: 0,
+            heads: 0,
             losses: 0,
-            refused: 0,
+            refused: Refused::default(),
             told_at: 0,
             run: 0,
             symbol: [0; 2],
@@ -77,6 +81,7 @@ impl<'a> Player<'a> {
 
     pub fn tell(&mut self) {
         self.end_run();
+        self.desk.look();
         self.told_at = self.pushes;
         self.blocks.owe(Owed {
             told: self.desk.told,
@@ -105,10 +110,12 @@ impl<'a> Player<'a> {
         let news = !last.quiet() || last.refusal != self.refusal;
         self.refusal = last.refusal;
         if news {
-            self.events += last.events.iter().filter(|&&e| e != Event::Nothing).count() as u64;
-            self.losses += last.events.iter().filter(|e| matches!(e, Event::Lost { .. })).count() as u64;
+            let count = |of: fn(&Event) -> bool| last.events.iter().filter(|e| of(e)).count() as u64;
+            self.events += count(|e| *e != Event::Nothing);
+            self.heads += count(|e| matches!(e, Event::Head { .. }));
+            self.losses += count(|e| matches!(e, Event::Lost { .. }));
         }
-        self.refused += u64::from(last.refusal != 0);
+        self.refused.count(last.refusal.into());
         let Telling { every, events, all: (from, to) } = self.telling;
         let due = self.pushes + 1 - self.told_at >= every || (events && news);
         let each = from <= self.pushes && self.pushes < to;
@@ -127,8 +134,9 @@ impl<'a> Player<'a> {
         self.call(Call::Fold);
         self.tell();
         self.blocks.flush();
-        let Self { pushes, events, losses, refused, .. } = self;
-        Totals { pushes, events, losses, refused, by_rust: self.desk.by_rust }
+        let Self { pushes, events, heads, losses, refused, .. } = self;
+        let Desk { by_rust, by_opened, looks, .. } = self.desk;
+        Totals { pushes, events, heads, losses, refused, by_rust, by_opened, looks }
     }
 
     fn put(&mut self, k: u32, v: u32) {
@@ -222,19 +230,41 @@ impl<'a> Player<'a> {
     }
 }
 
-#[derive(Default, Clone, Copy)]
+#[derive(Default, Clone)]
 pub struct Totals {
     pub pushes: u64,
     pub events: u64,
+    pub heads: u64,
     pub losses: u64,
-    pub refused: u64,
+    pub refused: Refused,
     pub by_rust: u64,
+    pub by_opened: u64,
+    pub looks: u64,
+}
+
+impl Counted for Totals {
+    fn named(&self) -> Vec<(String, u64)> {
+        let all = [
+            ("symbols", self.pushes),
+            (BY_RUST, self.by_rust),
+            (BY_OPENED, self.by_opened),
+            (LOOKS, self.looks),
+            ("events", self.events),
+            ("heads", self.heads),
+            ("losses", self.losses),
+        ];
+        all.map(|(name, n)| (name.to_string(), n)).into_iter().chain(self.refused.named()).collect()
+    }
 }
 
 impl std::fmt::Display for Totals {
     fn fmt(&self, out: &mut std::fmt::Formatter) -> std::fmt::Result {
-        let Self { pushes, events, losses, refused, by_rust } = self;
-        write!(out, "{pushes:>9} symbols, {by_rust:>9} by the Rust, {events:>6} events, {losses:>5} of them losses, {refused:>7} refused")
+        let Self { pushes, events, heads, losses, refused, by_rust, by_opened, looks } = self;
+        write!(
+            out,
+            "{pushes:>9} symbols, {by_rust:>9} by the Rust, {by_opened} by it opened, {looks} looks at its state, "
+        )?;
+        write!(out, "{events} events, {heads} of them heads and {losses} losses, {refused}")
     }
 }
 
@@ -242,8 +272,11 @@ impl std::ops::AddAssign for Totals {
     fn add_assign(&mut self, more: Self) {
         self.pushes += more.pushes;
         self.events += more.events;
+        self.heads += more.heads;
         self.losses += more.losses;
         self.refused += more.refused;
         self.by_rust += more.by_rust;
+        self.by_opened += more.by_opened;
+        self.looks += more.looks;
     }
 }

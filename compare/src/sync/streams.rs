@@ -1,9 +1,10 @@
 //! The streams, by kind.
 
-use super::calls::{Call, Event, Word};
+use super::calls::{Call, Event, Kind, Word};
 use super::model::{Lock, Reading, Stage, State, SLOT};
 use super::player::Player;
 use crate::inputs::{pick, Random, Size};
+use crate::stage::Least;
 use isdbs3_phy::chain::sync::word_symbols;
 use std::f64::consts::TAU;
 
@@ -12,25 +13,167 @@ const END: u64 = 1 << 62;
 pub struct Stream {
     pub name: &'static str,
     pub play: fn(&mut Player, &mut Random, Size),
+    pub least: Least,
 }
 
-pub const STREAMS: [Stream; 16] = [
-    Stream { name: "zeros", play: zeros },
-    Stream { name: "constant symbols", play: constants },
-    Stream { name: "extreme symbols", play: extremes },
-    Stream { name: "noise", play: noise },
-    Stream { name: "one symbol a period", play: impulses },
-    Stream { name: "bench values", play: bench_values },
-    Stream { name: "refusals 1 and 2", play: refusals },
-    Stream { name: "positions", play: positions },
-    Stream { name: "states out of range", play: out_of_range },
-    Stream { name: "states handed in", play: handed_in },
-    Stream { name: "random words", play: random_words },
-    Stream { name: "offsets near 0, 9,295", play: offsets },
-    Stream { name: "period losses, relocks", play: relocks },
-    Stream { name: "random restarts", play: restarts },
-    Stream { name: "frames with markers", play: frames },
-    Stream { name: "marker losses", play: marker_losses },
+pub const STREAMS: [Stream; 21] = [
+    Stream { name: "zeros", play: zeros, least: &[("by the Rust", 25_000), ("looks at its state", 7), ("events", 2)] },
+    Stream {
+        name: "constant symbols",
+        play: constants,
+        least: &[("by the Rust", 650_000), ("looks at its state", 180), ("events", 70)],
+    },
+    Stream {
+        name: "extreme symbols",
+        play: extremes,
+        least: &[("by the Rust", 120_000), ("looks at its state", 32), ("events", 12)],
+    },
+    Stream {
+        name: "noise",
+        play: noise,
+        least: &[("by the Rust", 350_000), ("looks at its state", 91), ("events", 35)],
+    },
+    Stream {
+        name: "one symbol a period",
+        play: impulses,
+        least: &[
+            ("by the Rust", 1_300_000),
+            ("looks at its state", 340),
+            ("events", 240),
+            ("heads", 100),
+            ("losses", 1),
+        ],
+    },
+    Stream {
+        name: "bench values",
+        play: bench_values,
+        least: &[
+            ("by the Rust", 1_700_000),
+            ("looks at its state", 420),
+            ("events", 360),
+            ("heads", 170),
+            ("losses", 1),
+        ],
+    },
+    Stream {
+        name: "at the ratio",
+        play: at_the_ratio,
+        least: &[("by the Rust", 69_000), ("looks at its state", 19), ("events", 7)],
+    },
+    Stream {
+        name: "lock rule",
+        play: lock_rule,
+        least: &[("by the Rust", 150_000), ("looks at its state", 40), ("events", 25), ("heads", 8), ("losses", 1)],
+    },
+    Stream {
+        name: "majorities",
+        play: majorities,
+        least: &[("by the Rust", 400_000), ("looks at its state", 100), ("events", 83), ("heads", 40)],
+    },
+    Stream {
+        name: "frame gaps",
+        play: frame_gaps,
+        least: &[("by the Rust", 670_000), ("looks at its state", 170), ("events", 120), ("heads", 48)],
+    },
+    Stream {
+        name: "refusals 1 and 2",
+        play: refusals,
+        least: &[
+            ("by the Rust", 50),
+            ("by the Rust, opened", 1),
+            ("looks at its state", 2),
+            ("refused 1", 4),
+            ("refused 2", 330),
+            ("refused 6", 1),
+        ],
+    },
+    Stream {
+        name: "positions",
+        play: positions,
+        least: &[
+            ("by the Rust", 220_000),
+            ("looks at its state", 100),
+            ("events", 40),
+            ("heads", 16),
+            ("losses", 1),
+            ("refused 7", 4_700),
+        ],
+    },
+    Stream {
+        name: "states out of range",
+        play: out_of_range,
+        least: &[
+            ("by the Rust", 0),
+            ("by the Rust, opened", 4_000),
+            ("looks at its state", 200),
+            ("events", 49),
+            ("heads", 25),
+            ("losses", 1),
+            ("refused 6", 230),
+            ("refused 7", 91),
+        ],
+    },
+    Stream {
+        name: "counts at their ends",
+        play: ends_of_counts,
+        least: &[
+            ("by the Rust", 0),
+            ("by the Rust, opened", 2),
+            ("looks at its state", 3),
+            ("events", 4),
+            ("heads", 4),
+        ],
+    },
+    Stream {
+        name: "states handed in",
+        play: handed_in,
+        least: &[
+            ("by the Rust", 0),
+            ("by the Rust, opened", 76_000),
+            ("looks at its state", 3_400),
+            ("events", 3_100),
+            ("heads", 2_000),
+            ("losses", 410),
+            ("refused 6", 5_000),
+            ("refused 7", 450),
+        ],
+    },
+    Stream {
+        name: "random words",
+        play: random_words,
+        least: &[("by the Rust", 650_000), ("looks at its state", 160), ("events", 120), ("heads", 56), ("losses", 1)],
+    },
+    Stream {
+        name: "offsets near 0, 9,295",
+        play: offsets,
+        least: &[("by the Rust", 690_000), ("looks at its state", 170), ("events", 130), ("heads", 61), ("losses", 1)],
+    },
+    Stream {
+        name: "period losses, relocks",
+        play: relocks,
+        least: &[("by the Rust", 510_000), ("looks at its state", 120), ("events", 95), ("heads", 40), ("losses", 1)],
+    },
+    Stream {
+        name: "random restarts",
+        play: restarts,
+        least: &[("by the Rust", 340_000), ("looks at its state", 100), ("events", 39), ("heads", 8)],
+    },
+    Stream {
+        name: "frames with markers",
+        play: frames,
+        least: &[("by the Rust", 4_100_000), ("looks at its state", 1_000), ("events", 890), ("heads", 440)],
+    },
+    Stream {
+        name: "marker losses",
+        play: marker_losses,
+        least: &[
+            ("by the Rust", 2_600_000),
+            ("looks at its state", 630),
+            ("events", 550),
+            ("heads", 270),
+            ("losses", 1),
+        ],
+    },
 ];
 
 /// The standard's F and S words. On a thread of its own, where no words are chosen.
@@ -259,6 +402,138 @@ fn bench_values(p: &mut Player, r: &mut Random, _: Size) {
     p.tell();
 }
 
+/// "A period counts if peak > 0 and peak x 9,296 >= 3 x sum": a first period that does so exactly, or misses it by a little. A symbol (x, x) by
+/// itself has the size 2x at 24 positions, so 129 symbols of 36 make a peak of 9 and a sum of 27,864, and one of 4 makes 24 more.
+fn at_the_ratio(p: &mut Player, r: &mut Random, _: Size) {
+    for (last, sum, locks) in [(0, 27_864, 4), (4, 27_888, 4), (8, 27_912, 5)] {
+        start(p, &[[1; 48]; 2], r.below(1 << 60) as u64);
+        p.run(23, [0; 2]);
+        let first = |k: u64| match (k % 24, k / 24) {
+            (0, 0..129) => [36; 2],
+            (0, 129) => [last; 2],
+            _ => [0; 2],
+        };
+        assert_eq!(period(p, first), (9, 0, sum, false), "a first period");
+        for turn in 2..=5 {
+            let (peak, place, _, locked) = period(p, |k| if k == 0 { [2_000; 2] } else { [0; 2] });
+            assert_eq!((peak > 9, place, locked), (true, 0, turn >= locks), "period {turn} behind a sum of {sum}");
+        }
+    }
+}
+
+/// A period with one symbol (x, x) at this place, which is then the first of 24 with one size, above these others.
+fn single(p: &mut Player, place: u64, x: i16, others: i16) -> bool {
+    (0..SLOT).for_each(|k| p.push([if k == place { x } else { others }; 2]));
+    last_period(p).is_some_and(|(.., locked)| locked)
+}
+
+/// "Four counting periods in a row with one peak position lock; eight others in a row, while locked, lose": each row is a place, the symbol
+/// there and all others, and whether the sync is locked behind that period. Peaks at 5, 5, 5 and then at 9 lock with the fourth at 9; one that
+/// does not count, since all symbols are strong, starts the count anew; a good period among others does so for the loss.
+fn lock_rule(p: &mut Player, _: &mut Random, _: Size) {
+    const MOVED: [(u64, i16, i16, bool); 7] = [
+        (5, 100, 0, false),
+        (5, 100, 0, false),
+        (5, 100, 0, false),
+        (9, 2_000, 0, false),
+        (9, 2_000, 0, false),
+        (9, 2_000, 0, false),
+        (9, 2_000, 0, true),
+    ];
+    const WEAK: [(u64, i16, i16, bool); 7] = [
+        (500, 100, 0, false),
+        (500, 100, 0, false),
+        (500, 100, 20, false),
+        (500, 30_000, 0, false),
+        (500, 30_000, 0, false),
+        (500, 30_000, 0, false),
+        (500, 30_000, 0, true),
+    ];
+    for rows in [MOVED, WEAK] {
+        start(p, &[[1; 48]; 2], 0);
+        p.run(23, [0; 2]);
+        for (k, (place, x, others, locked)) in rows.into_iter().enumerate() {
+            assert_eq!(single(p, place, x, others), locked, "period {k} of a peak at {place}");
+        }
+    }
+    start(p, &[[1; 48]; 2], 0);
+    p.run(23, [0; 2]);
+    let lost = |p: &Player| p.desk.last.events.iter().any(|e| matches!(e, Event::Lost { .. }));
+    let goods = [(5, 100, 4), (2_000, 1_000, 7), (5, 10_000, 1), (2_000, 30_000, 8)];
+    for (place, x, periods) in goods {
+        for k in 1..=periods {
+            let locked = single(p, place, x, 0);
+            let expected = if (place, k) == (5, periods) || place == 2_000 { k < 8 } else { false };
+            assert_eq!((locked, lost(p)), (expected, k == 8), "period {k} at {place}");
+        }
+    }
+}
+
+/// The majority stays within -8..8: behind more F heads of one sign than that, the first of the other sign is the frame's mark and six more
+/// are strays, which bring it down to 1.
+fn majorities(p: &mut Player, r: &mut Random, _: Size) {
+    for sign in [1.0, -1.0] {
+        let mut signal = Signal::new(standard(), 300.0);
+        (signal.marks, signal.sign) = (false, sign);
+        start(p, &signal.words, 0);
+        signal.slots(p, r, 26);
+        signal.sign = -sign;
+        signal.slots(p, r, 18);
+        let State { majority, stray, .. } = p.desk.sync.state;
+        assert_eq!((f64::from(majority) * sign <= 0.0, stray), (true, 6), "strays behind a full majority");
+    }
+}
+
+/// Symbols before a signal's heads, and the head that is its frame's mark, counted from 0: with slot 111 first, the fourth head locks, the
+/// fifth and the seventh make a majority, and the ninth is that of slot 0.
+const LEAD: u64 = 1_000;
+const MARK: u64 = 9;
+
+/// From a start or a restart up to the mark; its position.
+fn marked(p: &mut Player, r: &mut Random) -> u64 {
+    let mut signal = Signal::new(standard(), 300.0);
+    signal.slot = 111;
+    p.run(LEAD, [0; 2]);
+    signal.slots(p, r, MARK);
+    signal.head(p, r);
+    p.next() - 24
+}
+
+/// Frame numbers over a restart: a mark, a restart some frames on, and another mark. The distance of the marks in symbols, and the number of
+/// frames that it counts for: the nearest, at least 1, at most 2^32 - 1, and the number wraps.
+fn frame_gaps(p: &mut Player, r: &mut Random, size: Size) {
+    const HALF: u64 = 60 * SLOT;
+    const MOST: u64 = u32::MAX as u64;
+    let mut gaps = vec![
+        (LEAD + MARK * SLOT + 24, 1),
+        (HALF - 1, 1),
+        (HALF, 1),
+        (3 * HALF - 1, 1),
+        (3 * HALF, 2),
+        (5 * HALF - 1, 2),
+        (5 * HALF, 3),
+        (2 * HALF * 12_345_678 + 7, 12_345_678),
+        (2 * HALF * MOST + HALF - 1, MOST),
+        (2 * HALF * MOST + HALF, MOST),
+        (2 * HALF * (MOST + 6), MOST),
+        (2 * HALF * (1 << 36), MOST),
+        (4 * HALF, 2),
+    ];
+    for _ in 0..if size == Size::Full { 60 } else { 2 } {
+        let (frames, off) = (2 + r.positive(31) as u64, r.below(2 * HALF) as u64);
+        gaps.push((2 * HALF * frames + off, frames + u64::from(off >= HALF)));
+    }
+    start(p, &standard(), 5_000);
+    let (mut last, mut frame) = (marked(p, r), 0);
+    for (distance, gap) in gaps {
+        let at = last + distance - LEAD - MARK * SLOT;
+        assert_eq!(p.restart(at).refusal, 0);
+        last = marked(p, r);
+        frame = (frame + gap) % (1 << 32);
+        assert_eq!(p.desk.sync.state.record, Some((last, frame as u32)), "a mark {distance} symbols on");
+    }
+}
+
 /// Accumulators of a wrong number, words with a wrong entry; which comes first.
 fn refusals(p: &mut Player, r: &mut Random, _: Size) {
     let words = standard();
@@ -479,6 +754,33 @@ fn out_of_range(p: &mut Player, r: &mut Random, _: Size) {
     p.tell();
 }
 
+/// Where the Rust overflows, by document 01: the two marker counters stay at 2^32 - 1, and a frame record later than the head counts as gap 0,
+/// which is raised to 1.
+fn ends_of_counts(p: &mut Player, _: &mut Random, _: Size) {
+    start(p, &standard(), 0);
+    let whole = State { misses: 0, stray: 0, missed: 0, record: None, ..full_state(77) };
+    let mut head = |s: State| {
+        p.hand_in(&s);
+        pushes(p, [300, -2], 0);
+        let Event::Head { at, word, slot, .. } = p.desk.last.events[0] else { panic!("no head") };
+        (at, word, slot, [p.desk.sync.state.stray, p.desk.sync.state.missed])
+    };
+    let (at, word, ..) = head(State { majority: 0, slot: None, ..whole });
+    let same = if word == Kind::Fsync { 5 } else { -5 };
+    for top in [u32::MAX - 1, u32::MAX] {
+        let full = State { stray: top, missed: top, ..whole };
+        let (.., counts) = head(State { majority: -same, slot: Some((17, 3)), ..full });
+        assert_eq!(counts, [u32::MAX, top], "a mark at number 18");
+        let (.., counts) = head(State { majority: same, slot: Some((119, 3)), ..full });
+        assert_eq!(counts, [top, u32::MAX], "no mark at number 0");
+    }
+    for late in [0, 1, 5_000_000, 1 << 60] {
+        let (.., slot, _) =
+            head(State { majority: -same, slot: Some((119, 3)), record: Some((at + late, 41)), ..whole });
+        assert_eq!(slot, Some((0, 42)), "a record {late} later than the head");
+    }
+}
+
 /// At an end, near it, or anywhere between.
 pub(crate) fn between(r: &mut Random, low: u64, high: u64) -> u64 {
     match r.below(4) {
@@ -579,7 +881,7 @@ fn handed_in(p: &mut Player, r: &mut Random, size: Size) {
         }
         if turn % 500 == 0 {
             // words that change on the way, and a longer run
-            p.hand_in(&State { t: 100, base: 0, ..state });
+            p.hand_in(&State { t: 100, base: END / 2, ..state });
             for _ in 0..10 {
                 let words = [random_word(r), random_word(r)];
                 p.words(&words[0], &words[1]);
@@ -666,18 +968,20 @@ fn restarts(p: &mut Player, r: &mut Random, size: Size) {
     }
 }
 
-/// Frames with their markers: some missed, some stray, none of them twice in a row.
+/// Frames with their markers: stray ones now and then, and of four frame heads the second and the fourth missed, with a mark between them
+/// that clears the misses.
 fn frames(p: &mut Player, r: &mut Random, size: Size) {
     let words = standard();
     for turn in 0..if size == Size::Full { 12 } else { 2 } {
         start(p, &words, r.below(1 << 61) as u64);
         let mut signal = Signal::any(words, r);
+        signal.slot = 100;
         signal.lead(p, r);
-        let mut heads = 0;
+        let losses = p.losses;
         for slot in 0..450 {
-            signal.marks = !(turn % 2 == 1 && slot / 120 == 2);
-            // a stray mark now and then
-            let stray = r.below(90) == 0;
+            signal.marks = !(turn % 2 == 1 && slot / 120 % 2 == 1);
+            // the first mark, in slot 20, has to be the frame's
+            let stray = slot > 20 && signal.slot != 0 && r.below(90) == 0;
             if stray {
                 signal.sign = -signal.sign;
             }
@@ -685,9 +989,8 @@ fn frames(p: &mut Player, r: &mut Random, size: Size) {
             if stray {
                 signal.sign = -signal.sign;
             }
-            heads += 1;
         }
-        assert!(heads == 450 && p.events > 450);
+        assert!(p.losses == losses && p.events > 450);
     }
 }
 
@@ -703,10 +1006,17 @@ fn marker_losses(p: &mut Player, r: &mut Random, size: Size) {
         signal.slots(p, r, 20);
         signal.marks = false;
         let before = p.losses;
-        signal.slots(p, r, 240);
+        // between the two that are missed a mark at another number, which changes nothing
+        signal.slots(p, r, 150);
+        signal.sign = -signal.sign;
+        signal.slots(p, r, 1);
+        signal.sign = -signal.sign;
+        signal.slots(p, r, 89);
         assert!(p.losses > before, "no marker loss at offset {offset}");
-        signal.marks = true;
-        signal.slots(p, r, 20);
+        // a lock again, and a mark, whose frame the record numbers
+        (signal.marks, signal.slot) = (true, 104);
+        signal.slots(p, r, 24);
+        assert!(p.desk.sync.state.slot.is_some_and(|(_, frame)| frame > 0), "a frame numbered by the record");
     }
 }
 

@@ -1,5 +1,8 @@
 // Reads a capture from standard input and prints its lines: document 01, "Capture". What is printed for an answer stands in crate bench_text; here it
-// is only read, called and written, in blocks of 65,536 bytes, whatever the capture's length.
+// is only read, called and written, in blocks of 65,536 bytes, whatever the capture's length. How it reads and writes where the system fails it or lets it wait
+// stands in system.rt: such a failure ends the program, with the lines so far and no last one.
+mod system;
+
 use bench_text::Page;
 use capture::Heading;
 use receiver::Answered;
@@ -7,6 +10,7 @@ use receiver::Receiver;
 use receiver_slot::AlignedRun;
 use receiver_slot::Runs;
 use sync_step::Events;
+use system::Moved;
 ghost use mathlib.Core.Path.{_≡_};
 ghost use mathlib.Core.Bool.{true};
 ghost use Prim.Native.Nat.{_+_, _≤_, _<_};
@@ -34,16 +38,18 @@ struct Played {
     ok: bool,
 }
 
-// Where the program stands between blocks: the bytes that are still declared, and if bytes are over.
+// Where the program stands between blocks: the bytes that are still declared, if bytes are over, and if a read failed.
 struct Stand {
     played: Played,
     left: u32,
     over: bool,
+    failed: bool,
 }
 
 fn write(out: &[u8], n: usize) -> bool {
     if n <= out.len() {
-        io::write_all(1, &out[..n])
+        let w = system::write(&out[..n]);
+        w.ok
     } else {
         false
     }
@@ -241,15 +247,17 @@ fn block(
         played: q,
         left: h.left,
         over: h.over,
+        failed: t.failed,
     }
 }
 
-// Whether a capture is over that stands so: by a refusal, bytes that are over, or a write that failed.
+// Whether a capture is over that stands so: by a refusal, bytes that are over, or a write or a read that failed.
 fn over(t: Stand) -> bool {
     let n = t.played.refusal;
     let ok = t.played.ok;
     let o = t.over;
-    o | (n != 0) | !ok
+    let failed = t.failed;
+    o | (n != 0) | !ok | failed
 }
 
 // One turn less, or none.
@@ -260,7 +268,8 @@ fn fewer(turns: u64, stop: bool) -> u64
     if stop { 0 } else { turns - 1 }
 }
 
-// The blocks after the first. A proved loop has to end, and nothing says that the input does: the turns are counted down from a number that no run uses up.
+// The blocks after the first, up to one that is not full. A proved loop has to end, and nothing says that the input does: the turns are counted down from a number
+// that no run uses up.
 fn blocks(
     t: Stand,
     buf: &mut [u8],
@@ -278,7 +287,9 @@ fn blocks(
     let mut q = t;
     let mut turns = if over(t) { 0 } else { u64::MAX };
     while 0 < turns {
-        let n = io::read_full(0, buf);
+        let m = system::read(buf);
+        let n = m.count;
+        q.failed = !m.ok;
         q = block(q, &buf[..n], signed, f, s, table, acc, store, soft, out);
         turns = fewer(turns, over(q) | (n < buf.len()));
     }
@@ -328,8 +339,8 @@ fn loaded(r: Receiver, bits: u8, points: &[i16], k: u32) -> Answered {
     receiver::load_points(r, bits, &points[..n], k as i64)
 }
 
-// A receiver at position 0 with step 0 and the capture's points.
-fn start(h: Heading, acc: &mut [u32]) -> Stand {
+// A receiver at position 0 with step 0 and the capture's points; ok: the first read did not fail.
+fn start(h: Heading, ok: bool, acc: &mut [u32]) -> Stand {
     let a = receiver::new(0, 0, acc);
     let x = a.receiver;
     let bits = h.bits;
@@ -347,13 +358,14 @@ fn start(h: Heading, acc: &mut [u32]) -> Stand {
         },
         left: h.declared,
         over: false,
+        failed: !ok,
     }
 }
 
-// The first block, of n bytes, whose header is accepted.
+// The first block, whose header is accepted.
 fn begin(
     h: Heading,
-    n: usize,
+    m: Moved,
     buf: &[u8],
     signed: &mut [i8],
     table: &[i16],
@@ -362,30 +374,34 @@ fn begin(
     soft: &mut [i8],
     out: &mut [u8],
 ) -> Stand
-    requires { ⌜ (length (now out) ≡ 65536) × (n ≤ length (now buf)) ⌝ }
+    requires { ⌜ (length (now out) ≡ 65536) × (m .count ≤ length (now buf)) ⌝ }
 {
-    let t = start(h, acc);
+    let t = start(h, m.ok, acc);
     let f = h.f;
     let s = h.s;
+    let n = m.count;
     let from = lesser(h.from, n);
     block(t, &buf[from..n], signed, f, s, table, acc, store, soft, out)
 }
 
-// What a capture ends with.
+// What a capture ends with. Where a read failed nobody knows what would have followed, so that the lines so far are the last.
 fn conclude(t: Stand, declared: u32, out: &mut [u8])
     requires { ⌜ length (now out) ≡ 65536 ⌝ }
 {
     let e = ends(t);
     let place = t.played.place;
     let ok = t.played.ok;
-    if ok {
+    let failed = t.failed;
+    if ok & failed {
+        write(out, place);
+    } else if ok {
         finish(e, (declared / 2) as u64, place, out);
     }
 }
 
 fn accepted(
     h: Heading,
-    n: usize,
+    m: Moved,
     buf: &mut [u8],
     signed: &mut [i8],
     table: &[i16],
@@ -394,15 +410,16 @@ fn accepted(
     soft: &mut [i8],
     out: &mut [u8],
 )
-    requires { ⌜ (length (now out) ≡ 65536) × (n ≤ length (now buf)) ⌝ }
+    requires { ⌜ (length (now out) ≡ 65536) × (m .count ≤ length (now buf)) ⌝ }
 {
-    let a = begin(h, n, buf, signed, table, acc, store, soft, out);
+    let a = begin(h, m, buf, signed, table, acc, store, soft, out);
     let f = h.f;
     let s = h.s;
     let b = blocks(a, buf, signed, f, s, table, acc, store, soft, out);
     conclude(b, h.declared, out);
 }
 
+// A header that is refused by what a failed read left of it is not told.
 fn all(
     buf: &mut [u8],
     signed: &mut [i8],
@@ -414,12 +431,13 @@ fn all(
 )
     requires { ⌜ length (now out) ≡ 65536 ⌝ }
 {
-    let n = io::read_full(0, buf);
+    let m = system::read(buf);
+    let n = m.count;
     let h = capture::header(&buf[..n], table);
     let refusal = h.refusal;
     if refusal == 0 {
-        accepted(h, n, buf, signed, table, acc, store, soft, out);
-    } else {
+        accepted(h, m, buf, signed, table, acc, store, soft, out);
+    } else if m.ok {
         finish(refusal, 0, 0, out);
     }
 }

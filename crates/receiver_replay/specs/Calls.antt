@@ -3,13 +3,13 @@ use Prim.Native.Nat.{ℕ}
 use mathlib.Core.List.{List, _++_}
 use lib.IntN.{ℤ}
 use lib.ListN.{take, drop}
-use Rattle.receiver.specs.Feed.{Block, feedOf}
+use Rattle.receiver.specs.Symbol.{Lent}
+use Rattle.receiver.specs.Feed.{feedOf}
 use Rattle.receiver_feed.specs.Answers.{feedAnswer}
 use Rattle.receiver.specs.Answers.{newAnswer, newAcc, restartAnswer, restartAcc}
-use Rattle.wire.specs.Wire.{packedOf}
 use Rattle.digest.specs.Digest.{digestOf, naturalsOf}
 use Rattle.fields.specs.Fields.{at, signed32, leastOf, fourTold}
-use Rattle.receiver_play.specs.Play.{Course, block, lentOf, playFrom}
+use Rattle.receiver_play.specs.Play.{Course, block, course, lentOf, playFrom}
 use Rattle.receiver_calls.specs.declared.kept.Kept.{Kept}
 use Rattle.receiver_calls.specs.declared.kept.Turn.{Turn}
 use Rattle.receiver_calls.specs.Kept.{turned}
@@ -23,20 +23,21 @@ pub record All : Type 0 where
   pub acc : List ℕ
   pub store : List ℤ
   pub soft : List ℤ
+  pub input : List ℤ
 
-abbrev pub all : Kept → List ℤ → List ℕ → List ℤ → List ℤ → All
-all k table acc store soft = record { kept = k; table = table; acc = acc; store = store; soft = soft }
+abbrev pub all : Kept → List ℤ → List ℕ → List ℤ → List ℤ → List ℤ → All
+all k table acc store soft input = record { kept = k; table = table; acc = acc; store = store; soft = soft; input = input }
 
 pub record Moved : Type 0 where
   pub told : List ℕ
   pub all : All
 
-abbrev pub moved : Turn → List ℤ → List ℕ → List ℤ → List ℤ → Moved
-moved t table acc store soft = record { told = t .told; all = all (t .kept) table acc store soft }
+abbrev pub moved : Turn → List ℤ → List ℕ → List ℤ → List ℤ → List ℤ → Moved
+moved t table acc store soft input = record { told = t .told; all = all (t .kept) table acc store soft input }
 
--- a call that takes no store
+-- a call that changes no store
 abbrev pub unmoved : All → Turn → Moved
-unmoved a t = moved t (a .table) (a .acc) (a .store) (a .soft)
+unmoved a t = moved t (a .table) (a .acc) (a .store) (a .soft) (a .input)
 
 -- ---- a new receiver: position, step; a restart: position; as many accumulators as number 3 says
 unfoldable pub newTurn : Kept → List ℕ → List ℕ → Turn
@@ -55,26 +56,25 @@ restartLeft k p acc = restartAcc (k .receiver) (at p 1) (take (at p 3) acc) ++ d
 unfoldable pub lookTurn : Kept → List ℕ → List ℤ → List ℤ → Turn
 lookTurn k acc store soft = turned k (fourTold 0 (naturalsOf acc) (digestOf store) (digestOf soft))
 
--- ---- symbols: how many, entries lent of table, accumulators, slot store and soft buffer
-unfoldable pub playedOf : Kept → List ℕ → List ℤ → List ℕ → List ℤ → List ℤ → Course
-playedOf k p table acc store soft =
-    playFrom (block (symbolsOf (packedOf p)) (k .f) (k .s) (take (at p 2) table)) (leastOf (at p 1) 72) 0 (k .receiver)
-    (lentOf (take (at p 3) acc) (take (at p 4) store) (take (at p 5) soft))
-
-unfoldable pub playCall : List ℕ → All → Moved
-playCall p a =
-    let c = playedOf (a .kept) p (a .table) (a .acc) (a .store) (a .soft) in
+-- ---- symbols, with as many entries of table, accumulators, slot store and soft buffer as numbers 2 to 5 say; `go` tells what comes of those
+unfoldable pub lentCall : (List ℤ → Lent → Course) → List ℕ → All → Moved
+lentCall go p a =
+    let c = go (take (at p 2) (a .table)) (lentOf (take (at p 3) (a .acc)) (take (at p 4) (a .store)) (take (at p 5) (a .soft))) in
     moved (playedTurn (a .kept) (c .told)) (a .table) (c .lent .acc ++ drop (at p 3) (a .acc)) (c .lent .store ++ drop (at p 4) (a .store))
-    (c .lent .soft ++ drop (at p 5) (a .soft))
+    (c .lent .soft ++ drop (at p 5) (a .soft)) (a .input)
 
--- so many bytes of them by one call of `feed`
-unfoldable pub fedBlock : Kept → List ℕ → List ℤ → Block
-fedBlock k p table = block (take (leastOf (at p 1) 144) (symbolsOf (packedOf p))) (k .f) (k .s) (take (at p 2) table)
+-- so many of the call's own, one by one
+unfoldable pub playCourse : Kept → List ℕ → List ℤ → Lent → Course
+playCourse k p table l = playFrom (block (symbolsOf p) (k .f) (k .s) table) (leastOf (at p 1) 72) 0 (k .receiver) l
 
-unfoldable pub feedCall : List ℕ → All → Moved
-feedCall p a =
-    let b = fedBlock (a .kept) p (a .table) in
-    let l = lentOf (take (at p 3) (a .acc)) (take (at p 4) (a .store)) (take (at p 5) (a .soft)) in
-    let m = feedOf (a .kept .receiver) b l .lent in
-    moved (playedTurn (a .kept) (feedAnswer (a .kept .receiver) b l)) (a .table) (m .acc ++ drop (at p 3) (a .acc)) (m .store ++ drop (at p 4) (a .store))
-    (m .soft ++ drop (at p 5) (a .soft))
+abbrev pub playCall : List ℕ → All → Moved
+playCall p a = lentCall (playCourse (a .kept) p) p a
+
+-- so many of the bytes x (at most all), by one call of `feed`
+unfoldable pub feedCourse : Kept → List ℕ → List ℤ → List ℤ → Lent → Course
+feedCourse k p x table l =
+    let b = block (take (at p 1) x) (k .f) (k .s) table in
+    course (feedAnswer (k .receiver) b l) (feedOf (k .receiver) b l .lent)
+
+abbrev pub feedCall : List ℕ → List ℤ → All → Moved
+feedCall p x a = lentCall (feedCourse (a .kept) p x) p a

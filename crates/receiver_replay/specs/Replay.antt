@@ -9,18 +9,21 @@ use Rattle.wire.specs.Blocks.{replayed as replayedBy, left}
 use Rattle.fields.specs.Fields.{at, setOf, setNaturalOf}
 use Rattle.receiver_calls.specs.Calls.{plain}
 use Rattle.receiver_calls.specs.Turns.{turnOf as freeTurnOf}
+use Rattle.receiver_replay.specs.Given.{symbolsOf, putOf}
 use Rattle.receiver_replay.specs.Calls.{All, Moved, moved, unmoved, newTurn, newLeft, restartTurn, restartLeft, lookTurn, playCall, feedCall}
 
 -- ---- one call: number 0 tells which. Those that take stores, in the order of their numbers, from 64 on; refusal 255 where there is no such call
 abbrev pub takers : List ℕ → All → List Moved
 takers p a =
-    moved (newTurn (a .kept) p (a .acc)) (a .table) (newLeft p (a .acc)) (a .store) (a .soft)
-    ∷ moved (restartTurn (a .kept) p (a .acc)) (a .table) (restartLeft (a .kept) p (a .acc)) (a .store) (a .soft)
+    moved (newTurn (a .kept) p (a .acc)) (a .table) (newLeft p (a .acc)) (a .store) (a .soft) (a .input)
+    ∷ moved (restartTurn (a .kept) p (a .acc)) (a .table) (restartLeft (a .kept) p (a .acc)) (a .store) (a .soft) (a .input)
     ∷ unmoved a (lookTurn (a .kept) (a .acc) (a .store) (a .soft))
-    ∷ moved (plain (a .kept) 0) (setOf p (a .table)) (a .acc) (a .store) (a .soft)
+    ∷ moved (plain (a .kept) 0) (setOf p (a .table)) (a .acc) (a .store) (a .soft) (a .input)
     ∷ playCall p a
-    ∷ feedCall p a
-    ∷ moved (plain (a .kept) 0) (a .table) (setNaturalOf p (a .acc)) (a .store) (a .soft)
+    ∷ feedCall p (symbolsOf p) a
+    ∷ moved (plain (a .kept) 0) (a .table) (setNaturalOf p (a .acc)) (a .store) (a .soft) (a .input)
+    ∷ moved (plain (a .kept) 0) (a .table) (a .acc) (a .store) (a .soft) (putOf p (a .input))
+    ∷ feedCall p (a .input) a
     ∷ []
 
 unfoldable pub storesOf : ℕ → List ℕ → All → Moved

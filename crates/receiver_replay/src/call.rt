@@ -1,4 +1,5 @@
 // One call: its bytes, its answer, and that answer's bytes.
+use crate::given;
 use crate::stores;
 use receiver_calls::kept::Kept;
 use receiver_calls::kept::Turn;
@@ -18,8 +19,9 @@ fn with(
     acc: &mut [u32],
     store: &mut [i16],
     soft: &mut [i8],
+    input: &mut [i8],
 ) -> Turn
-    ensures { λ r. ⌜ moved r (now (table .exit)) (now (acc .exit)) (now (store .exit)) (now (soft .exit)) ≡ storesOf n (now (p .entry)) (all k (now (table .entry)) (now (acc .entry)) (now (store .entry)) (now (soft .entry))) ⌝ }
+    ensures { λ r. ⌜ moved r (now (table .exit)) (now (acc .exit)) (now (store .exit)) (now (soft .exit)) (now (input .exit)) ≡ storesOf n (now (p .entry)) (all k (now (table .entry)) (now (acc .entry)) (now (store .entry)) (now (soft .entry)) (now (input .entry))) ⌝ }
 {
     match n {
         0 => stores::new(k, p, acc),
@@ -30,11 +32,19 @@ fn with(
             receiver_calls::plain(k, 0)
         }
         4 => stores::play(k, p, table, acc, store, soft),
-        5 => stores::feed(k, p, table, acc, store, soft),
+        5 => {
+            let x = given::symbols(p);
+            stores::feed(k, p, &x, table, acc, store, soft)
+        }
         6 => {
             fields::set_natural(p, acc);
             receiver_calls::plain(k, 0)
         }
+        7 => {
+            given::put(p, input);
+            receiver_calls::plain(k, 0)
+        }
+        8 => stores::feed(k, p, input, table, acc, store, soft),
         _ => receiver_calls::plain(k, 255),
     }
 }
@@ -47,13 +57,14 @@ fn turn(
     acc: &mut [u32],
     store: &mut [i16],
     soft: &mut [i8],
+    input: &mut [i8],
 ) -> Turn
-    ensures { λ r. ⌜ moved r (now (table .exit)) (now (acc .exit)) (now (store .exit)) (now (soft .exit)) ≡ turnOf op (now (p .entry)) (all k (now (table .entry)) (now (acc .entry)) (now (store .entry)) (now (soft .entry))) ⌝ }
+    ensures { λ r. ⌜ moved r (now (table .exit)) (now (acc .exit)) (now (store .exit)) (now (soft .exit)) (now (input .exit)) ≡ turnOf op (now (p .entry)) (all k (now (table .entry)) (now (acc .entry)) (now (store .entry)) (now (soft .entry)) (now (input .entry))) ⌝ }
 {
     if op < 64 {
         receiver_calls::turn(op, k, p)
     } else {
-        with(op - 64, k, p, table, acc, store, soft)
+        with(op - 64, k, p, table, acc, store, soft, input)
     }
 }
 
@@ -66,13 +77,14 @@ pub(crate) fn replace(
     acc: &mut [u32],
     store: &mut [i16],
     soft: &mut [i8],
+    input: &mut [i8],
 ) -> Kept
     requires { ⌜ at + 192 ≤ length (now buf) ⌝ }
-    ensures { λ r. ⌜ (now (buf .exit) ≡ paste (now (buf .entry)) at (answerBytes (all k (now (table .entry)) (now (acc .entry)) (now (store .entry)) (now (soft .entry))) (drop at (now (buf .entry)))) 192)
-        × (all r (now (table .exit)) (now (acc .exit)) (now (store .exit)) (now (soft .exit)) ≡ after (all k (now (table .entry)) (now (acc .entry)) (now (store .entry)) (now (soft .entry))) (drop at (now (buf .entry)))) ⌝ }
+    ensures { λ r. ⌜ (now (buf .exit) ≡ paste (now (buf .entry)) at (answerBytes (all k (now (table .entry)) (now (acc .entry)) (now (store .entry)) (now (soft .entry)) (now (input .entry))) (drop at (now (buf .entry)))) 192)
+        × (all r (now (table .exit)) (now (acc .exit)) (now (store .exit)) (now (soft .exit)) (now (input .exit)) ≡ after (all k (now (table .entry)) (now (acc .entry)) (now (store .entry)) (now (soft .entry)) (now (input .entry))) (drop at (now (buf .entry)))) ⌝ }
 {
     let p = wire::ranged::numbers(&buf[at..]);
-    let t = turn(p[0], k, &p, table, acc, store, soft);
+    let t = turn(p[0], k, &p, table, acc, store, soft, input);
     let a = t.told;
     let bytes = wire::packed(&a);
     bytes::copy(&bytes, &mut buf[at..]);

@@ -1,7 +1,8 @@
 // Replays calls of the receiver. Standard input: calls of 192 bytes; standard output: an answer of 192 bytes for each. Both are 24 numbers of 8
 // bytes, least byte first; compare/README.md lists the calls and what their numbers are. The program keeps one receiver, both words, the events of
-// the last play, sums, the carrier table and the stores, each with a few entries more than a call takes, so that too many can be lent.
-// Input that ends within a call is told on standard error: a Rattle program has no exit status to tell it by.
+// the last play, sums, the carrier table and the stores, each with a few entries more than a call takes, so that too many can be lent; and bytes of
+// symbols, the input, which many calls fill and one feed takes, since a call has room for 72 symbols only.
+// Standard input that ends within a call is told on standard error: a Rattle program has no exit status to tell it by.
 mod call;
 mod given;
 mod stores;
@@ -34,15 +35,16 @@ fn replay(
     acc: &mut [u32],
     store: &mut [i16],
     soft: &mut [i8],
+    input: &mut [i8],
 ) -> Kept
     requires { ⌜ 192 * n ≤ length (now buf) ⌝ }
-    ensures { λ r. ⌜ (now (buf .exit) ≡ replayed (all k (now (table .entry)) (now (acc .entry)) (now (store .entry)) (now (soft .entry))) n (now (buf .entry)))
-        × (all r (now (table .exit)) (now (acc .exit)) (now (store .exit)) (now (soft .exit)) ≡ leftOf (all k (now (table .entry)) (now (acc .entry)) (now (store .entry)) (now (soft .entry))) n (now (buf .entry))) ⌝ }
+    ensures { λ r. ⌜ (now (buf .exit) ≡ replayed (all k (now (table .entry)) (now (acc .entry)) (now (store .entry)) (now (soft .entry)) (now (input .entry))) n (now (buf .entry)))
+        × (all r (now (table .exit)) (now (acc .exit)) (now (store .exit)) (now (soft .exit)) (now (input .exit)) ≡ leftOf (all k (now (table .entry)) (now (acc .entry)) (now (store .entry)) (now (soft .entry)) (now (input .entry))) n (now (buf .entry))) ⌝ }
 {
     let mut s = k;
     let mut i: usize = 0;
     while i < n {
-        s = call::replace(s, buf, 192 * i, table, acc, store, soft);
+        s = call::replace(s, buf, 192 * i, table, acc, store, soft, input);
         i += 1;
     }
     s
@@ -74,11 +76,12 @@ fn block(
     acc: &mut [u32],
     store: &mut [i16],
     soft: &mut [i8],
+    input: &mut [i8],
 ) -> Left {
     let got = io::read_full(0, buf);
     let n = got / 192;
     let whole = 192 * n;
-    let s = replay(k, buf, n, table, acc, store, soft);
+    let s = replay(k, buf, n, table, acc, store, soft, input);
     let written = io::write_all(1, &buf[..whole]);
     Left {
         kept: s,
@@ -94,11 +97,12 @@ fn blocks(
     acc: &mut [u32],
     store: &mut [i16],
     soft: &mut [i8],
+    input: &mut [i8],
 ) {
     let mut s = k;
     let mut turns = u64::MAX;
     while 0 < turns {
-        let l = block(s, buf, table, acc, store, soft);
+        let l = block(s, buf, table, acc, store, soft, input);
         s = l.kept;
         let n = l.next;
         match n {
@@ -122,6 +126,7 @@ fn main() {
     let mut acc = [0u32; 9297];
     let mut store = [0i16; 18593];
     let mut soft = [85i8; 50000];
+    let mut input = [0i8; 40000];
     let a = receiver::new(0, 0, &mut acc);
     let r = a.receiver;
     let s = sums::new(0);
@@ -136,5 +141,13 @@ fn main() {
             third: Event::Nothing,
         },
     };
-    blocks(k, &mut buf, &mut table, &mut acc, &mut store, &mut soft);
+    blocks(
+        k,
+        &mut buf,
+        &mut table,
+        &mut acc,
+        &mut store,
+        &mut soft,
+        &mut input,
+    );
 }

@@ -1,9 +1,11 @@
-// What each call that takes stores answers and leaves.
+// What each call that takes stores answers and leaves. The contracts of a play and of a feed hold beside any input, since both leave it as it is.
 use crate::given;
 use receiver_calls::kept;
 use receiver_calls::kept::Kept;
 use receiver_calls::kept::Turn;
 ghost use mathlib.Core.Path.{_≡_};
+ghost use mathlib.Core.List.{List};
+ghost use lib.IntN.{ℤ};
 ghost use Rattle.receiver_replay.specs.Calls.{newTurn, newLeft, restartTurn, restartLeft, lookTurn, all, moved, playCall, feedCall};
 
 pub(crate) fn new(k: Kept, p: &[u64; 24], acc: &mut [u32]) -> Turn
@@ -40,10 +42,9 @@ pub(crate) fn play(
     store: &mut [i16],
     soft: &mut [i8],
 ) -> Turn
-    ensures { λ r. ⌜ moved r (now (table .entry)) (now (acc .exit)) (now (store .exit)) (now (soft .exit)) ≡ playCall (now (p .entry)) (all k (now (table .entry)) (now (acc .entry)) (now (store .entry)) (now (soft .entry))) ⌝ }
+    ensures { λ r. ⌜ ((input : List ℤ) → moved r (now (table .entry)) (now (acc .exit)) (now (store .exit)) (now (soft .exit)) input ≡ playCall (now (p .entry)) (all k (now (table .entry)) (now (acc .entry)) (now (store .entry)) (now (soft .entry)) input)) ⌝ }
 {
-    let bytes = wire::packed(p);
-    let x = given::symbols(&bytes);
+    let x = given::symbols(p);
     let n = fields::least(p[1], 72);
     let t = fields::least(p[2], table.len());
     let a = fields::least(p[3], acc.len());
@@ -66,20 +67,19 @@ pub(crate) fn play(
     receiver_calls::played(k, d)
 }
 
-// So many bytes of symbols by `feed`.
+// So many of the bytes x by one call of `feed`: the call's own, or the input's.
 pub(crate) fn feed(
     k: Kept,
     p: &[u64; 24],
+    x: &[i8],
     table: &[i16],
     acc: &mut [u32],
     store: &mut [i16],
     soft: &mut [i8],
 ) -> Turn
-    ensures { λ r. ⌜ moved r (now (table .entry)) (now (acc .exit)) (now (store .exit)) (now (soft .exit)) ≡ feedCall (now (p .entry)) (all k (now (table .entry)) (now (acc .entry)) (now (store .entry)) (now (soft .entry))) ⌝ }
+    ensures { λ r. ⌜ ((input : List ℤ) → moved r (now (table .entry)) (now (acc .exit)) (now (store .exit)) (now (soft .exit)) input ≡ feedCall (now (p .entry)) (now (x .entry)) (all k (now (table .entry)) (now (acc .entry)) (now (store .entry)) (now (soft .entry)) input)) ⌝ }
 {
-    let bytes = wire::packed(p);
-    let x = given::symbols(&bytes);
-    let m = fields::least(p[1], 144);
+    let m = fields::least(p[1], x.len());
     let t = fields::least(p[2], table.len());
     let a = fields::least(p[3], acc.len());
     let b = fields::least(p[4], store.len());

@@ -18,8 +18,8 @@ over-requires c κs = search needs
 loop-holds : tie.Need-loop-holds Inv-loop μ-loop
 loop-holds c = search needs
 
-read-full-requires : tie.Need-read-full-requires Inv-loop μ-loop
-read-full-requires c κs = search needs
+read-requires : tie.Need-read-requires Inv-loop μ-loop
+read-requires c κs = search needs
 
 slice-reshare-prefix-block : tie.Need-slice-reshare-prefix-block Inv-loop μ-loop
 slice-reshare-prefix-block c = search needs
@@ -28,22 +28,22 @@ slice-aggregate-block : tie.Need-slice-aggregate-block Inv-loop μ-loop
 slice-aggregate-block c = search needs
 
 block-requires : tie.Need-block-requires Inv-loop μ-loop
-block-requires c κs = c .before .before .before .before .before .before .before .before .before .before .before .loop .inv .5 ∙ c .before .before .before .before .before .before .before .before .before .before .before .before .before .before .before .before .before .pre
+block-requires c κs = c .before .before .before .before .before .before .before .before .before .before .before .before .loop .inv .5 ∙ c .before .before .before .before .before .before .before .before .before .before .before .before .before .before .before .before .before .before .pre
 
 over-requires-2 : tie.Need-over-requires-2 Inv-loop μ-loop
 over-requires-2 c κs = search needs
 
 fewer-requires : tie.Need-fewer-requires Inv-loop μ-loop
-fewer-requires c κs = c .before .before .before .before .before .before .before .before .before .before .before .before .before .before .before .before .before .before .before .loop-test .taken
+fewer-requires c κs = c .before .before .before .before .before .before .before .before .before .before .before .before .before .before .before .before .before .before .before .before .loop-test .taken
 
 loop-less : tie.Need-loop-less Inv-loop μ-loop
 loop-less c = c .fewer .ensures
 
 loop-again : tie.Need-loop-again Inv-loop μ-loop
 loop-again c =
-    let h = c .before .before .before .before .before .before .before .before .before .before .before .before .before .before .before .before .before .before .before .before .before .loop in
+    let h = c .before .before .before .before .before .before .before .before .before .before .before .before .before .before .before .before .before .before .before .before .before .before .loop in
     let g = c .before .before .before .before .before .before .before .before .before .block in (
-      c .before .before .before .before .before .before .before .before .before .before .before .before .before .before .before .before .before .before .read-full .kept .1 .0 ∙ h .inv .0,
+      c .before .before .before .before .before .before .before .before .before .before .before .before .before .before .before .before .before .before .before .read .kept .0 ∙ h .inv .0,
       g .kept .1 .1 .0 ∙ h .inv .1,
       g .kept .1 .1 .1 .1 .1 .1 .0 ∙ h .inv .2,
       g .kept .1 .1 .1 .1 .1 .1 .1 .0 ∙ h .inv .3,
@@ -80,7 +80,7 @@ blocks-spec =
     μ-loop
     over-requires
     loop-holds
-    read-full-requires
+    read-requires
     slice-reshare-prefix-block
     slice-aggregate-block
     block-requires

@@ -1,7 +1,8 @@
 -- `receiver_replay::block` meets its contract. Assumes nothing.
-use borrow.Author.Needs.{needs}
 use lib.Seq.{length-take-le}
 use mathlib.Core.Path.{sym}
+use native.Mathlib.Omega.{arith}
+use borrow.Author.Needs.{needs}
 use Rattle.receiver_replay.proofs.block.Statement.{statement}
 use Rattle.receiver_replay.proofs.block.Tie as tie
 
@@ -15,10 +16,10 @@ replay-requires : tie.Need-replay-requires
 replay-requires c κs = search needs
 
 slice-reshare-prefix-write-all : tie.Need-slice-reshare-prefix-write-all
-slice-reshare-prefix-write-all c = search needs
+slice-reshare-prefix-write-all c = let b = c .before .before .before .before .before .before .before .before in omega (arith, b .replay .kept .1 .0, b .before .before .before .before .before .before .before .before .before .read-full .ensures)
 
 slice-aggregate-write-all : tie.Need-slice-aggregate-write-all
-slice-aggregate-write-all c = sym (length-take-le _ _ (search needs))
+slice-aggregate-write-all c = sym (length-take-le _ _ (let b = c .before .before .before .before .before .before .before .before .before in omega (arith, b .replay .kept .1 .0, b .before .before .before .before .before .before .before .before .before .read-full .ensures)))
 
 write-all-requires : tie.Need-write-all-requires
 write-all-requires c κs = search needs
@@ -41,6 +42,9 @@ same-length-4 c = search needs
 same-length-5 : tie.Need-same-length-5
 same-length-5 c = search needs
 
+same-length-6 : tie.Need-same-length-6
+same-length-6 c = search needs
+
 returns : tie.Need-returns
 returns c = search needs
 
@@ -60,4 +64,5 @@ block-spec =
     same-length-3
     same-length-4
     same-length-5
+    same-length-6
     returns)

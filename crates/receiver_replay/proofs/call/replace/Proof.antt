@@ -38,16 +38,16 @@ slice-aggregate-copy : tie.Need-slice-aggregate-copy
 slice-aggregate-copy c = search needs
 
 sub-copy : tie.Need-sub-copy
-sub-copy c = search needs
+sub-copy c = omega (arith, c .before .before .before .before .before .before .before .before .before .before .before .before .before .before .before .before .before .before .before .before .before .before .pre)
 
 part-copy-start : tie.Need-part-copy-start
-part-copy-start c = search needs
+part-copy-start c = omega (arith, c .before .before .before .before .before .before .before .before .before .before .before .before .before .before .before .before .before .before .before .before .before .before .pre)
 
 part-copy-end : tie.Need-part-copy-end
 part-copy-end c = search needs
 
 copy-requires : tie.Need-copy-requires
-copy-requires c κs = omega (arith, c .before .before .before .before .before .before .before .before .before .before .before .before .before .before .before .before .before .before .before .before .before .pre, c .before .before .before .before .before .before .before .before .before .before .before .before .before .before .before .before .before .before .before .before .before .good)
+copy-requires c κs = omega (arith, c .before .before .before .before .before .before .before .before .before .before .before .before .before .before .before .before .before .before .before .before .before .before .before .pre, c .before .before .before .before .before .before .before .before .before .before .before .before .before .before .before .before .before .before .before .before .before .before .before .good)
 
 same-length : tie.Need-same-length
 same-length c = search needs
@@ -64,21 +64,25 @@ same-length-4 c = search needs
 same-length-5 : tie.Need-same-length-5
 same-length-5 c = search needs
 
+same-length-6 : tie.Need-same-length-6
+same-length-6 c = search needs
+
 returns : tie.Need-returns
 unfolding answerBytes after
 returns c =
-    let s = c .before .before .before .before .before .before .before .before .before .before .before .before .before .before .before .before .before .before .before .before .before .before .before .before .before .args in
+    let b = c .before .before .before .before .before .before .before .before .before .before .before .before .before .before .before in
+    let s = b .before .before .before .before .before .before .before .before .before .before .before .before .args in
     let l : List ℕ = s .buf .now in
     let at : ℕ = s .at in
     let k : ℕ = length l - at in
-    let d = all (s .k) (s .table .now) (s .acc .now) (s .store .now) (s .soft .now) in
+    let d = all (s .k) (s .table .now) (s .acc .now) (s .store .now) (s .soft .now) (s .input .now) in
     let rest : take k (drop at l) ≡ drop at l = take-all k (drop at l) (omega (arith, length-drop at l)) in
-    let n = rw rest at (c .before .before .before .before .before .before .before .before .before .before .before .before .before .before .before .before .before .before .before .before .numbers .ensures) in
-    let g = rw n at (c .before .before .before .before .before .before .before .before .before .before .before .before .before .before .turn .ensures) in
+    let n = rw rest at (b .before .before .before .before .before .before .before .numbers .ensures) in
+    let g = rw n at (b .turn .ensures) in
     let told = ap (λ (m : Moved). m .told) g in
     let e : c .before .before .before .before .before .before .packed .result ≡ answerBytes d (drop at l) = rw told at (c .before .before .before .before .before .before .packed .ensures) in (
       ap (λ (x : List ℕ). take at l ++ (x ++ drop k (drop at l))) (c .before .before .before .copy .ensures .1)
-          ∙ rw e (put-part 192 l (answerBytes d (drop at l)) at k (length-answer d (drop at l)) (c .before .before .before .before .before .before .before .before .before .before .before .before .before .before .before .before .before .before .before .before .before .before .before .before .before .pre) refl),
+          ∙ rw e (put-part 192 l (answerBytes d (drop at l)) at k (length-answer d (drop at l)) (b .before .before .before .before .before .before .before .before .before .before .before .before .pre) refl),
       ap (λ (m : Moved). m .all) g,
     )
 
@@ -103,4 +107,5 @@ replace-spec =
     same-length-3
     same-length-4
     same-length-5
+    same-length-6
     returns)

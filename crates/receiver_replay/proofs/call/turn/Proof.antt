@@ -29,9 +29,12 @@ same-length-3 c = search needs
 same-length-4 : tie.Need-same-length-4
 same-length-4 c = search needs
 
+same-length-5 : tie.Need-same-length-5
+same-length-5 c = search needs
+
 returns-2 : tie.Need-returns-2
 unfolding turnOf
-returns-2 c = c .before .before .before .before .before .with .ensures ∙ sym (if-no _ _ _ (le-ltb _ _ (c .before .before .before .before .before .before .before .before .before .before .if1 .left)))
+returns-2 c = c .before .before .before .before .before .before .with .ensures ∙ sym (if-no _ _ _ (le-ltb _ _ (c .before .before .before .before .before .before .before .before .before .before .before .before .if1 .left)))
 
 pub turn-spec : {M : Type 1} → statement M
 turn-spec =
@@ -44,4 +47,5 @@ turn-spec =
     same-length-2
     same-length-3
     same-length-4
+    same-length-5
     returns-2)

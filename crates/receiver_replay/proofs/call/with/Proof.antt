@@ -24,6 +24,12 @@ plain-requires c κs = search needs
 play-requires : tie.Need-play-requires
 play-requires c κs = search needs
 
+symbols-requires : tie.Need-symbols-requires
+symbols-requires c κs = search needs
+
+slice-aggregate-feed : tie.Need-slice-aggregate-feed
+slice-aggregate-feed c = search needs
+
 feed-requires : tie.Need-feed-requires
 feed-requires c κs = search needs
 
@@ -33,8 +39,17 @@ set-natural-requires c κs = search needs
 plain-requires-2 : tie.Need-plain-requires-2
 plain-requires-2 c κs = search needs
 
+put-requires : tie.Need-put-requires
+put-requires c κs = search needs
+
 plain-requires-3 : tie.Need-plain-requires-3
 plain-requires-3 c κs = search needs
+
+feed-requires-2 : tie.Need-feed-requires-2
+feed-requires-2 c κs = search needs
+
+plain-requires-4 : tie.Need-plain-requires-4
+plain-requires-4 c κs = search needs
 
 same-length : tie.Need-same-length
 same-length c = search needs
@@ -84,7 +99,7 @@ same-length-10 c = search needs
 
 returns-5 : tie.Need-returns-5
 unfolding storesOf
-returns-5 c = rw (c .before .before .before .before .before .before .before .before .before .match .keys5, c .before .before .before .before .play .ensures)
+returns-5 c = rw (c .before .before .before .before .before .before .before .before .before .match .keys5) (c .before .before .before .before .play .ensures (c .before .before .before .before .before .before .before .before .before .before .before .args .input .now))
 
 same-length-11 : tie.Need-same-length-11
 same-length-11 c = search needs
@@ -100,7 +115,7 @@ same-length-14 c = search needs
 
 returns-6 : tie.Need-returns-6
 unfolding storesOf
-returns-6 c = rw (c .before .before .before .before .before .before .before .before .before .match .keys6, c .before .before .before .before .feed .ensures)
+returns-6 c = rw (c .before .before .before .before .before .before .before .before .before .before .before .match .keys6, ← c .before .before .before .before .before .before .before .before .before .before .symbols .ensures) (c .before .before .before .before .feed .ensures (c .before .before .before .before .before .before .before .before .before .before .before .before .before .args .input .now))
 
 same-length-15 : tie.Need-same-length-15
 same-length-15 c = search needs
@@ -109,8 +124,34 @@ returns-7 : tie.Need-returns-7
 unfolding storesOf
 returns-7 c = rw (c .before .before .before .before .before .match .keys7, c .plain2 .ensures, c .before .before .before .set-natural .ensures)
 
+same-length-16 : tie.Need-same-length-16
+same-length-16 c = search needs
+
 returns-8 : tie.Need-returns-8
-returns-8 c = rw (c .plain3 .ensures) (stores-none (c .before .before .before .args .n) (c .before .before .before .args .p .now) _ (past 7 _ (c .before .match .rest)))
+unfolding storesOf
+returns-8 c = rw (c .before .before .before .before .match .keys8, c .plain3 .ensures, c .before .before .put .ensures)
+
+same-length-17 : tie.Need-same-length-17
+same-length-17 c = search needs
+
+same-length-18 : tie.Need-same-length-18
+same-length-18 c = search needs
+
+same-length-19 : tie.Need-same-length-19
+same-length-19 c = search needs
+
+same-length-20 : tie.Need-same-length-20
+same-length-20 c = search needs
+
+same-length-21 : tie.Need-same-length-21
+same-length-21 c = search needs
+
+returns-9 : tie.Need-returns-9
+unfolding storesOf
+returns-9 c = rw (c .before .before .before .before .before .before .before .before .before .before .match .keys9) (c .before .before .before .before .feed2 .ensures (c .before .before .before .before .before .before .before .before .before .before .before .before .args .input .now))
+
+returns-10 : tie.Need-returns-10
+returns-10 c = rw (c .plain4 .ensures) (stores-none (c .before .before .before .args .n) (c .before .before .before .args .p .now) _ (past 9 _ (c .before .match .rest)))
 
 pub with-spec : {M : Type 1} → statement M
 with-spec =
@@ -122,10 +163,15 @@ with-spec =
     set-requires
     plain-requires
     play-requires
+    symbols-requires
+    slice-aggregate-feed
     feed-requires
     set-natural-requires
     plain-requires-2
+    put-requires
     plain-requires-3
+    feed-requires-2
+    plain-requires-4
     same-length
     returns
     same-length-2
@@ -148,4 +194,12 @@ with-spec =
     returns-6
     same-length-15
     returns-7
-    returns-8)
+    same-length-16
+    returns-8
+    same-length-17
+    same-length-18
+    same-length-19
+    same-length-20
+    same-length-21
+    returns-9
+    returns-10)

@@ -1,16 +1,11 @@
 -- `receiver_replay::stores::feed` meets its contract. Assumes nothing.
-use Rattle.receiver_replay.proofs.Laws.{fed-is}
+use Rattle.receiver_replay.proofs.Laws.{feed-is, lent-is}
+use Rattle.receiver_replay.specs.Calls.{feedCourse}
 use borrow.Author.Needs.{needs}
 use lib.Seq.{length-take-le}
 use mathlib.Core.Path.{sym}
 use Rattle.receiver_replay.proofs.stores.feed.Statement.{statement}
 use Rattle.receiver_replay.proofs.stores.feed.Tie as tie
-
-packed-requires : tie.Need-packed-requires
-packed-requires c κs = search needs
-
-symbols-requires : tie.Need-symbols-requires
-symbols-requires c κs = search needs
 
 element-copy-out-least : tie.Need-element-copy-out-least
 element-copy-out-least c = search needs
@@ -41,9 +36,6 @@ element-copy-out-least-5 c = search needs
 
 least-requires-5 : tie.Need-least-requires-5
 least-requires-5 c κs = search needs
-
-array-share-prefix-x : tie.Need-array-share-prefix-x
-array-share-prefix-x c = search needs
 
 slice-aggregate-feed : tie.Need-slice-aggregate-feed
 slice-aggregate-feed c = sym (length-take-le _ _ (search needs))
@@ -85,18 +77,19 @@ same-length-3 : tie.Need-same-length-3
 same-length-3 c = search needs
 
 returns : tie.Need-returns
-returns c =
-    let s = c .before .before .before .before .before .before .before .before .before .before .before .before .before .before .before .before .before .before .before .before .before .before .before .before .before .before .before .before .args in
+returns c = λ input.
+    let b = c .before .before .before .before .before .before .before .before .before .before .before .before .before .before in
+    let s = b .before .before .before .before .before .before .before .before .before .before .before .args in
     let e = c .before .before .before .before .before .feed .ensures in
-    fed-is (s .k) (s .p .now) (s .table .now) (s .acc .now) (s .store .now) (s .soft .now) _ _ _ _ _ _ _ _ _ _ _ _
-    (c .before .before .before .before .before .before .before .before .before .before .before .before .before .before .before .before .before .before .before .before .before .before .least .ensures .0) (c .before .before .before .before .before .before .before .before .before .before .before .before .before .before .before .before .before .before .before .before .least2 .ensures .0) (c .before .before .before .before .before .before .before .before .before .before .before .before .before .before .before .before .before .before .least3 .ensures .0) (c .before .before .before .before .before .before .before .before .before .before .before .before .before .before .before .before .least4 .ensures .0) (c .before .before .before .before .before .before .before .before .before .before .before .before .before .before .least5 .ensures .0) (c .before .before .before .before .before .before .before .before .before .before .before .before .before .before .before .before .before .before .before .before .before .before .before .before .symbols .ensures) (c .before .before .before .before .before .before .before .before .before .before .before .before .before .before .before .before .before .before .before .before .before .before .before .before .before .before .packed .ensures) (e .0) (e .1) (e .2) (e .3) (c .played .ensures)
+    lent-is (feedCourse (s .k) (s .p .now) (s .x .now)) (s .k) (s .p .now) (s .table .now) (s .acc .now) (s .store .now) (s .soft .now) input _ _ _ _ _ _ _ _ _
+    (b .before .before .before .before .before .before .least2 .ensures .0) (b .before .before .before .before .least3 .ensures .0) (b .before .before .least4 .ensures .0) (b .least5 .ensures .0)
+    (feed-is (s .k) (s .p .now) (s .x .now) _ _ _ _ _ _ _ (b .before .before .before .before .before .before .before .before .least .ensures .0) (e .0) (e .1) (e .2) (e .3))
+    (c .played .ensures)
 
 pub feed-spec : {M : Type 1} → statement M
 feed-spec =
     tie.close
     (tie.spec
-    packed-requires
-    symbols-requires
     element-copy-out-least
     least-requires
     element-copy-out-least-2
@@ -107,7 +100,6 @@ feed-spec =
     least-requires-4
     element-copy-out-least-5
     least-requires-5
-    array-share-prefix-x
     slice-aggregate-feed
     slice-aggregate-feed-2
     slice-relend-prefix-feed

@@ -1,13 +1,11 @@
 -- `receiver_replay::stores::play` meets its contract. Assumes nothing.
-use Rattle.receiver_replay.proofs.Laws.{played-is}
+use Rattle.receiver_replay.proofs.Laws.{lent-is, play-is}
+use Rattle.receiver_replay.specs.Calls.{playCourse}
 use borrow.Author.Needs.{needs}
 use lib.Seq.{length-take-le}
 use mathlib.Core.Path.{sym}
 use Rattle.receiver_replay.proofs.stores.play.Statement.{statement}
 use Rattle.receiver_replay.proofs.stores.play.Tie as tie
-
-packed-requires : tie.Need-packed-requires
-packed-requires c κs = search needs
 
 symbols-requires : tie.Need-symbols-requires
 symbols-requires c κs = search needs
@@ -79,16 +77,19 @@ same-length-3 : tie.Need-same-length-3
 same-length-3 c = search needs
 
 returns : tie.Need-returns
-returns c =
-    let s = c .before .before .before .before .before .before .before .before .before .before .before .before .before .before .before .before .before .before .before .before .before .before .before .before .before .before .before .before .args in
-    played-is (s .k) (s .p .now) (s .table .now) (s .acc .now) (s .store .now) (s .soft .now) _ _ _ _ _ _ _ _ _ _ _ _
-    (c .before .before .before .before .before .before .before .before .before .before .before .before .before .before .before .before .before .before .before .before .before .before .least .ensures .0) (c .before .before .before .before .before .before .before .before .before .before .before .before .before .before .before .before .before .before .before .before .least2 .ensures .0) (c .before .before .before .before .before .before .before .before .before .before .before .before .before .before .before .before .before .before .least3 .ensures .0) (c .before .before .before .before .before .before .before .before .before .before .before .before .before .before .before .before .least4 .ensures .0) (c .before .before .before .before .before .before .before .before .before .before .before .before .before .before .least5 .ensures .0) (c .before .before .before .before .before .before .before .before .before .before .before .before .before .before .before .before .before .before .before .before .before .before .before .before .symbols .ensures) (c .before .before .before .before .before .before .before .before .before .before .before .before .before .before .before .before .before .before .before .before .before .before .before .before .before .before .packed .ensures) (c .before .before .before .before .before .play .ensures .0) (c .before .before .before .before .before .play .ensures .1) (c .played .ensures)
+returns c = λ input.
+    let b = c .before .before .before .before .before .before .before .before .before .before .before .before .before .before in
+    let s = b .before .before .before .before .before .before .before .before .before .before .before .before .args in
+    let e = c .before .before .before .before .before .play .ensures in
+    lent-is (playCourse (s .k) (s .p .now)) (s .k) (s .p .now) (s .table .now) (s .acc .now) (s .store .now) (s .soft .now) input _ _ _ _ _ _ _ _ _
+    (b .before .before .before .before .before .before .least2 .ensures .0) (b .before .before .before .before .least3 .ensures .0) (b .before .before .least4 .ensures .0) (b .least5 .ensures .0)
+    (play-is (s .k) (s .p .now) _ _ _ _ _ _ (b .before .before .before .before .before .before .before .before .least .ensures .0) (b .before .before .before .before .before .before .before .before .before .before .symbols .ensures) (e .0) (e .1))
+    (c .played .ensures)
 
 pub play-spec : {M : Type 1} → statement M
 play-spec =
     tie.close
     (tie.spec
-    packed-requires
     symbols-requires
     element-copy-out-least
     least-requires

@@ -1,15 +1,15 @@
-//! The unchanged `Nco`, `SlotSync`, `SlotPhase`, `Equaliser` and `demap`, wired as document 01, "The receiver", says. `Back` itself does not fit:
+//! The Rust's `Nco`, `SlotSync`, `SlotPhase`, `Equaliser` and `demap`, wired as document 01, "The receiver", says. `Back` itself does not fit:
 //! it asks for a frame number and a layout and trains on pilots. Its alignment and its reference for sync symbols are stated once more, here.
 //!
 //! It refuses nothing; words and table are those chosen at the shim when it is made. A slot has `MOD_SLOT` symbols.
 
+use super::phy::chain::demap::demap;
+use super::phy::chain::eq::{Equaliser, Sums, CENTRE};
+use super::phy::chain::frame::{part, Part, SYNC_REF};
+use super::phy::chain::phase::{Corrected, SlotPhase};
+use super::phy::chain::sync::{word_symbols, Head, Nco, SlotSync, SyncEvent, SyncStats, Word};
+use super::phy::eq::TAPS;
 use isdbs3_core::params::{FSYNC, MOD_SLOT, SSYNC, SYNC_SYMBOLS};
-use isdbs3_phy::chain::demap::demap;
-use isdbs3_phy::chain::eq::{Equaliser, Sums, CENTRE};
-use isdbs3_phy::chain::frame::{part, Part, SYNC_REF};
-use isdbs3_phy::chain::phase::{Corrected, SlotPhase};
-use isdbs3_phy::chain::sync::{word_symbols, Head, Nco, SlotSync, SyncEvent, SyncStats, Word};
-use isdbs3_phy::eq::TAPS;
 use std::collections::VecDeque;
 
 pub type Symbol = [i16; 2];
@@ -59,23 +59,23 @@ pub struct Told {
 }
 
 pub struct Receiver {
-    f: [[i8; 2]; SYNC_SYMBOLS],
-    s: [[i8; 2]; SYNC_SYMBOLS],
-    nco: Nco,
-    sync: SlotSync,
-    phase: SlotPhase,
-    eq: Equaliser,
+    pub(super) f: [[i8; 2]; SYNC_SYMBOLS],
+    pub(super) s: [[i8; 2]; SYNC_SYMBOLS],
+    pub(super) nco: Nco,
+    pub(super) sync: SlotSync,
+    pub(super) phase: SlotPhase,
+    pub(super) eq: Equaliser,
     /// The last 24 rotated symbols since the restart, the oldest first.
-    window: VecDeque<Symbol>,
+    pub(super) window: VecDeque<Symbol>,
     /// Corrected symbols whose equalised value is still to come.
-    waiting: VecDeque<Corrected>,
-    last_at: Option<u64>,
-    points: Option<Points>,
+    pub(super) waiting: VecDeque<Corrected>,
+    pub(super) last_at: Option<u64>,
+    pub(super) points: Option<Points>,
     /// The position of the next symbol, and symbols since the restart.
-    next: u64,
-    t: u64,
+    pub(super) next: u64,
+    pub(super) t: u64,
     /// As `last_corr` tells them, place by place.
-    accumulators: Vec<u32>,
+    pub(super) accumulators: Vec<u32>,
 }
 
 impl Receiver {
