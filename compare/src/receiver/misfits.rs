@@ -277,6 +277,17 @@ fn run(p: &mut Player, r: &mut Random, symbols: u64) {
     }
 }
 
+/// Before a head, which the next symbol tells.
+fn before_a_head() -> State {
+    State {
+        window: std::array::from_fn(|k| 80 * k as i16 - 2_000),
+        t: 23 + 5_000 + 12 * PERIOD,
+        lock: Lock::Locked { offset: 5_000, misses: 0 },
+        stage: Stage::Known { odd: true, due: false, last: [700, -300] },
+        ..State::started(1 << 40, None)
+    }
+}
+
 /// Where the Rust overflows, by document 01: the two marker counters stay at 2^32 - 1, and a frame record later than the head counts as gap 0,
 /// which is raised to 1.
 fn ends_of_counts(p: &mut Player, r: &mut Random) {
@@ -287,13 +298,7 @@ fn ends_of_counts(p: &mut Player, r: &mut Random) {
         let Event::Head { at, word, slot, .. } = p.push([100, -90]).events[0] else { panic!("no head") };
         (at, word, slot, [p.desk.receiver.sync.state.stray, p.desk.receiver.sync.state.missed])
     };
-    let whole = State {
-        window: std::array::from_fn(|k| 80 * k as i16 - 2_000),
-        t: 23 + 5_000 + 12 * PERIOD,
-        lock: Lock::Locked { offset: 5_000, misses: 0 },
-        stage: Stage::Known { odd: true, due: false, last: [700, -300] },
-        ..State::started(1 << 40, None)
-    };
+    let whole = before_a_head();
     let (at, word, ..) = head(whole);
     let same = if word == Kind::Fsync { 5 } else { -5 };
     let full = State { stray: u32::MAX, missed: u32::MAX, ..whole };
@@ -303,6 +308,18 @@ fn ends_of_counts(p: &mut Player, r: &mut Random) {
     }
     let (.., slot, _) = head(State { majority: -same, slot: Some((119, 3)), record: Some((at + 1, 41)), ..whole });
     assert_eq!(slot, Some((0, 42)), "a record later than the head");
+}
+
+/// A slot that is due is given if its last symbol stands below 2^62, by document 01; the Rust has no such limit.
+fn slots_at_the_end(p: &mut Player, r: &mut Random) {
+    for (last, refusal) in [(END - 2, 0), (END - 1, 0), (END, 7), (END + 1, 7), (END + 9_271, 7)] {
+        let mut x = any_receiver(p, r);
+        let Held { head, .. } = std::iter::repeat_with(|| any_phase(&x.sync.state, r)).flatten().next().unwrap();
+        x.phase = Some(Held { head: Head { at: last - (PERIOD - 1), ..head }, count: PERIOD as u32 });
+        (x.sync.state, x.eq.opened) = (before_a_head(), false);
+        p.hand_in(&x);
+        p.refuses([100, -90], refusal);
+    }
 }
 
 /// By the symbol's own call and by `feed`, from states that are handed in.
@@ -334,6 +351,7 @@ pub fn misfits(p: &mut Player, r: &mut Random, size: Size) {
         }
     }
     if size != Size::Sample {
+        slots_at_the_end(p, r);
         assert!(p.totals.all.slots - slots > 200, "slots corrected from such states");
         assert!(p.totals.all.losses - losses > 100, "losses");
         assert!(p.totals.stops.iter().all(|&n| n > 4), "feeds that stop: {:?}", p.totals.stops);
