@@ -118,7 +118,7 @@ within() {
     local periods
     for periods in 16 8; do
         valgrind --tool=callgrind --callgrind-out-file="$out/callgrind.$periods" "$out/bench_receiver" count feed "$1" port $periods >/dev/null 2>&1
-        callgrind_annotate --threshold=100 "$out/callgrind.$periods" | sed -n 's/^ *\([0-9,]*\) .*:\([a-z_]*::[a-z_:]*\) .*/\2 \1/p' | tr -d ,
+        callgrind_annotate --threshold=100 "$out/callgrind.$periods" | sed -n 's/^ *\([0-9,]*\) [^:]*:\([a-z_]*::[a-z_:]*\) .*/\2 \1/p' | tr -d ,
     done | awk -v n=$((8 * 9296)) '{ if ($1 in first) seen[$1] = first[$1] - $2; else first[$1] = $2 }
         END { for (f in first) { d = (f in seen ? seen[f] : first[f]) / n; if (d >= 1) printf "%9.1f %s\n", d, f } }' | sort -rn
 }
