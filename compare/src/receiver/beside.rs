@@ -41,7 +41,7 @@ pub trait Beside {
 /// Whether the opened Rust can be handed in what is kept: all numbers in range, words of ones, and nothing at which it overflows where
 /// document 01 decides otherwise.
 pub fn fits(desk: &Desk) -> bool {
-    desk.words.iter().all(ones) && desk.receiver.in_range() && sync_fits(&desk.receiver.sync.state)
+    sync_fits(&desk.receiver.sync.state) && desk.words.iter().all(ones) && desk.receiver.in_range()
 }
 
 /// The Rust beside, which of its builds it is, and what it shows that no receiver keeps.

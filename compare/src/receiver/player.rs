@@ -14,6 +14,7 @@ use crate::inputs::{pick, Random};
 use crate::opened::handed_in;
 use crate::phase::calls::Numbers;
 use crate::stage::{Calls, Counted, Refused, Sink, BY_OPENED, BY_RUST, LOOKS};
+use crate::sync::beside::fits as sync_fits;
 use crate::sync::calls::{pairs, Event};
 use crate::sync::model::ones;
 use crate::unchanged::receiver::Stages;
@@ -330,8 +331,11 @@ impl<'a> Player<'a> {
         }
     }
 
-    /// Before a call that may be accepted: the opened Rust is given what was handed in.
+    /// Before a call that may be accepted: the opened Rust is given what was handed in. One that may overflow at the next symbol is let go.
     fn follow_in(&mut self) {
+        if self.rust.is_some() && !sync_fits(&self.desk.receiver.sync.state) {
+            self.alter();
+        }
         if self.altered && fits(&self.desk) {
             let Desk { receiver, words, table, acc, store, .. } = &self.desk;
             choose_table(&table[..1_024]);

@@ -131,6 +131,13 @@ impl Desk {
         self.altered = !self.alone;
     }
 
+    /// A Rust that may overflow at the next symbol does not go on.
+    fn let_go(&mut self) {
+        if self.beside.is_some() && !fits(&self.sync.state) {
+            self.alter();
+        }
+    }
+
     /// The opened Rust in the state that was handed in.
     fn follow(&mut self) {
         if std::mem::take(&mut self.altered) && fits(&self.sync.state) {
@@ -146,6 +153,7 @@ impl Desk {
         if refusal != 0 {
             return self.note(Answer::refused(refusal));
         }
+        self.let_go();
         self.follow();
         let answer = self.sync.push(symbol, &self.f, &self.s, &mut self.store[..lent]);
         if let Some(beside) = &mut self.beside {
