@@ -118,10 +118,10 @@ pub const STREAMS: [Stream; 21] = [
         play: ends_of_counts,
         least: &[
             ("by the Rust", 0),
-            ("by the Rust, opened", 2),
+            ("by the Rust, opened", 7),
             ("looks at its state", 3),
-            ("events", 4),
-            ("heads", 4),
+            ("events", 9),
+            ("heads", 5),
         ],
     },
     Stream {
@@ -758,12 +758,16 @@ fn out_of_range(p: &mut Player, r: &mut Random, _: Size) {
 /// which is raised to 1.
 fn ends_of_counts(p: &mut Player, _: &mut Random, _: Size) {
     start(p, &standard(), 0);
-    let whole = State { misses: 0, stray: 0, missed: 0, record: None, ..full_state(77) };
+    let lock = Lock::Locked { offset: 9_290, misses: 0 };
+    let whole = State { lock, misses: 0, stray: 0, missed: 0, record: None, ..full_state(9_290) };
+    // a head, and five symbols later the period that tells the counters
     let mut head = |s: State| {
         p.hand_in(&s);
         pushes(p, [300, -2], 0);
         let Event::Head { at, word, slot, .. } = p.desk.last.events[0] else { panic!("no head") };
-        (at, word, slot, [p.desk.sync.state.stray, p.desk.sync.state.missed])
+        (0..5).for_each(|_| pushes(p, [0; 2], 0));
+        let Event::Period { stray, missed, .. } = p.desk.last.events[0] else { panic!("no period") };
+        (at, word, slot, [stray, missed])
     };
     let (at, word, ..) = head(State { majority: 0, slot: None, ..whole });
     let same = if word == Kind::Fsync { 5 } else { -5 };
