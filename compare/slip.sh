@@ -33,9 +33,9 @@ if [ "${1:-}" = --seeds ]; then
     shift 2
 fi
 
-# slips FILE: the names of the slips in a file, each with its function if it has one
+# slips FILE: the names of the slips in a file, each with its function if it has one. Only their tables have entries indented by four.
 slips() {
-    sed -n 's/^ *("\([a-z0-9_]*\)", \("\([a-z0-9_]*\)"\)\?.*/\1 \3/p' "$here/$1"
+    sed -n 's/^    ("\([a-z0-9_]*\)", \("\([a-z0-9_]*\)"\)\?.*/\1 \3/p' "$here/$1"
 }
 
 # played PART SEED: whether the comparison passes; its output is in the part's log
