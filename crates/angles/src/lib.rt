@@ -4,7 +4,7 @@ pub mod plain;
 pub mod ranged;
 
 // A pair I, Q.
-#[derive(Drop)]
+#[derive(Clone, Copy)]
 pub struct Symbol {
     pub i: i16,
     pub q: i16,

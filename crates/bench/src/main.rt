@@ -14,14 +14,14 @@ use sync_step::Events;
 use system::Moved;
 
 // The next place of the output, and if all writing went well: a write that fails ends the program.
-#[derive(Drop)]
+#[derive(Clone, Copy)]
 struct Put {
     place: usize,
     ok: bool,
 }
 
 // .. and the next soft value.
-#[derive(Drop)]
+#[derive(Clone, Copy)]
 struct Ran {
     place: usize,
     ok: bool,
@@ -29,7 +29,7 @@ struct Ran {
 }
 
 // What symbols leave; a refusal or a failed write ends the capture.
-#[derive(Drop)]
+#[derive(Clone, Copy)]
 struct Played {
     receiver: Receiver,
     refusal: u8,
@@ -38,7 +38,7 @@ struct Played {
 }
 
 // Where the program stands between blocks: the bytes that are still declared, if bytes are over, and if a read failed.
-#[derive(Drop)]
+#[derive(Clone, Copy)]
 struct Stand {
     played: Played,
     left: u32,
@@ -153,7 +153,7 @@ fn onward(from: usize, used: usize, len: usize) -> usize
 }
 
 // What the symbols up to and with the first that tells anything leave; used: how many.
-#[derive(Drop)]
+#[derive(Clone, Copy)]
 struct Went {
     used: usize,
     played: Played,

@@ -8,14 +8,14 @@ ghost use Rattle.io.specs.Counts.{IsPrefixLen};
 use libc::types::timespec;
 
 // How many of a buffer's first bytes were moved, and if the system did not fail.
-#[derive(Drop)]
+#[derive(Clone, Copy)]
 pub struct Moved {
     pub count: usize,
     pub ok: bool,
 }
 
 // The same after one call; more: another call is to follow. While one is to follow, ok is not set.
-#[derive(Drop)]
+#[derive(Clone, Copy)]
 struct Step {
     done: usize,
     more: bool,

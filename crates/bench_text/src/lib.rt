@@ -2,7 +2,7 @@
 pub mod ranged;
 
 // Where a page stands: the next symbol of its run, the next soft value, the next place in the buffer.
-#[derive(Drop)]
+#[derive(Clone, Copy)]
 pub struct Page {
     pub i: usize,
     pub v: usize,

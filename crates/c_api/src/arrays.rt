@@ -12,21 +12,21 @@ use sync_heads::Word;
 
 // 24 symbols, I before Q.
 #[repr(C)]
-#[derive(Drop)]
+#[derive(Clone, Copy)]
 pub struct Window {
     pub x: [i16; 48],
 }
 
 // One sync word.
 #[repr(C)]
-#[derive(Drop)]
+#[derive(Clone, Copy)]
 pub struct OneWord {
     pub w: [i8; 48],
 }
 
 // The F word and the S word.
 #[repr(C)]
-#[derive(Drop)]
+#[derive(Clone, Copy)]
 pub struct Words {
     pub f: [i8; 48],
     pub s: [i8; 48],
@@ -34,7 +34,7 @@ pub struct Words {
 
 // 11 equations: the matrix row by row, and the right side, the real part before the imaginary part.
 #[repr(C)]
-#[derive(Drop)]
+#[derive(Clone, Copy)]
 pub struct Equations {
     pub a: [f64; 242],
     pub b: [f64; 22],
@@ -42,7 +42,7 @@ pub struct Equations {
 
 // The 11 unknowns; all 0 after a refusal.
 #[repr(C)]
-#[derive(Drop)]
+#[derive(Clone, Copy)]
 pub struct Unknowns {
     pub x: [f64; 22],
     pub refusal: u8,

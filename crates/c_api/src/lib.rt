@@ -12,14 +12,14 @@ use fx::{Phasor, Scaled, Turned, Whole, Whole8, Whole16, Whole32};
 
 // Refusal 0 is an accepted call; after any other the value is 0.
 #[repr(C)]
-#[derive(Drop)]
+#[derive(Clone, Copy)]
 pub struct Number {
     pub value: i64,
     pub refusal: u8,
 }
 
 #[repr(C)]
-#[derive(Drop)]
+#[derive(Clone, Copy)]
 pub struct Numbers {
     pub first: i64,
     pub second: i64,

@@ -15,7 +15,7 @@ use frame_map::SlotPart;
 
 // A rotated symbol and the phase after it; after a refusal the symbol is 0 and the phase as given.
 #[repr(C)]
-#[derive(Drop)]
+#[derive(Clone, Copy)]
 pub struct Rotation {
     pub phase: u32,
     pub i: i16,

@@ -5,7 +5,7 @@ ghost use Rattle.capture.specs.Contents.{kind_fits, length_fits, entry_of};
 use crate::numbers;
 
 // If the entry is as it should be, and its body's length.
-#[derive(Drop)]
+#[derive(Clone, Copy)]
 pub struct Listed {
     pub fits: bool,
     pub length: u32,

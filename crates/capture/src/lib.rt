@@ -10,7 +10,7 @@ ghost use Rattle.capture.specs.Bodies.{answer_refusal, header_answer, header_tab
 ghost use Rattle.capture.specs.Blocks.{shared_of};
 
 // The declared lengths of points and symbols.
-#[derive(Drop)]
+#[derive(Clone, Copy)]
 pub struct Lengths {
     pub refusal: u8,
     pub points: u32,
@@ -19,7 +19,7 @@ pub struct Lengths {
 
 // All that stands before the symbols but the table. Points fill the first 2 × 2^bits places; `from` is the first symbol's byte, `declared`
 // the length of the symbols.
-#[derive(Drop)]
+#[derive(Clone, Copy)]
 pub struct Heading {
     pub refusal: u8,
     pub f: [i8; 48],
@@ -32,7 +32,7 @@ pub struct Heading {
 }
 
 // Of a block: the bytes that act, what is declared after it, and if bytes are over, which ends the capture with 12.
-#[derive(Drop)]
+#[derive(Clone, Copy)]
 pub struct Shared {
     pub count: usize,
     pub left: u32,

@@ -10,7 +10,7 @@ ghost use Rattle.carrier.specs.Answers.{rotate_answer, head_answer, restart_answ
 use sync_heads::Head;
 
 // The angle of the last Ssync head, and the differences since the last setting: their sum and their number.
-#[derive(Drop)]
+#[derive(Clone, Copy)]
 pub struct Steps {
     pub last_ss: u32,
     pub sum: i64,
@@ -18,20 +18,20 @@ pub struct Steps {
 }
 
 // The Ssync heads since the restart.
-#[derive(Drop)]
+#[derive(Clone, Copy)]
 pub enum Trail {
     Empty,
     Since(Steps),
 }
 
-#[derive(Drop)]
+#[derive(Clone, Copy)]
 pub struct Nco {
     pub phase: u32,
     pub freq: i32,
     pub trail: Trail,
 }
 
-#[derive(Drop)]
+#[derive(Clone, Copy)]
 pub struct Rotated {
     pub refusal: u8,
     pub nco: Nco,
@@ -40,14 +40,14 @@ pub struct Rotated {
 }
 
 // `set`: this head has set the step.
-#[derive(Drop)]
+#[derive(Clone, Copy)]
 pub struct Heard {
     pub refusal: u8,
     pub nco: Nco,
     pub set: bool,
 }
 
-#[derive(Drop)]
+#[derive(Clone, Copy)]
 pub struct Restarted {
     pub refusal: u8,
     pub nco: Nco,

@@ -10,7 +10,7 @@ ghost use Rattle.demap.specs.Demap.{metric_of};
 ghost use Rattle.demap.specs.Answers.{demap_answer, demap_buffer, block_refusal, block_buffer, scale_answer};
 
 // The least metric.
-#[derive(Drop)]
+#[derive(Clone, Copy)]
 pub enum Demapped {
     Least(i64),
     Refused(u8),

@@ -5,13 +5,13 @@ ghost use Rattle.demap_replay.specs.Kept.{with_learn, with_force, turned};
 use in_force::InForce;
 use learn::Learn;
 
-#[derive(Drop)]
+#[derive(Clone, Copy)]
 pub struct Kept {
     pub learn: Learn,
     pub force: InForce,
 }
 
-#[derive(Drop)]
+#[derive(Clone, Copy)]
 pub struct Turn {
     pub kept: Kept,
     pub told: [u64; 24],

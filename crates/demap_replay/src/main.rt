@@ -17,7 +17,7 @@ use kept::Kept;
 const BLOCK: usize = 49152;
 
 // What a block of input leaves to do.
-#[derive(Drop)]
+#[derive(Clone, Copy)]
 enum Next {
     Block,
     Nothing,
@@ -40,7 +40,7 @@ fn replay(k: Kept, buf: &mut [u8], n: usize, learned: &mut [i16], nominal: &mut 
 }
 
 // The states after a block, and what is to be done.
-#[derive(Drop)]
+#[derive(Clone, Copy)]
 struct Left {
     kept: Kept,
     next: Next,

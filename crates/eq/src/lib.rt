@@ -10,7 +10,7 @@ use angles::Symbol;
 use sums::Sums;
 
 // The frame whose sums gave the taps; the identity came from none.
-#[derive(Drop)]
+#[derive(Clone, Copy)]
 pub enum TapsFrom {
     Identity,
     Frame(u32),
@@ -18,7 +18,7 @@ pub enum TapsFrom {
 
 // The last 11 symbols, newest first, and how many of them came since the restart; the taps; the open sums. An enum cannot hold the
 // sums, so a flag stands beside them, and sums that are not open are those of nothing.
-#[derive(Drop)]
+#[derive(Clone, Copy)]
 pub struct Equaliser {
     pub line: [i16; 22],
     pub filled: u32,
@@ -28,27 +28,27 @@ pub struct Equaliser {
     pub sums: Sums,
 }
 
-#[derive(Drop)]
+#[derive(Clone, Copy)]
 pub enum Equalised {
     Nothing,
     Given(Symbol),
 }
 
 // An output for the line as it is.
-#[derive(Drop)]
+#[derive(Clone, Copy)]
 pub struct Answered {
     pub refusal: u8,
     pub eq: Equaliser,
     pub out: Equalised,
 }
 
-#[derive(Drop)]
+#[derive(Clone, Copy)]
 pub struct Kept {
     pub refusal: u8,
     pub eq: Equaliser,
 }
 
-#[derive(Drop)]
+#[derive(Clone, Copy)]
 pub struct Pushed {
     pub refusal: u8,
     pub eq: Equaliser,
@@ -56,7 +56,7 @@ pub struct Pushed {
 }
 
 // `ended`: sums were open, and these are they.
-#[derive(Drop)]
+#[derive(Clone, Copy)]
 pub struct Closed {
     pub refusal: u8,
     pub eq: Equaliser,

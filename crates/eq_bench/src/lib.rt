@@ -7,19 +7,19 @@ ghost use Rattle.eq_bench.specs.Blocks.{filtered, filtered_by, in_byte, in_bytes
 use sums::Sums;
 
 #[repr(C)]
-#[derive(Drop)]
+#[derive(Clone, Copy)]
 pub struct Line {
     pub x: [i16; 22],
 }
 
 #[repr(C)]
-#[derive(Drop)]
+#[derive(Clone, Copy)]
 pub struct Rows {
     pub x: [i16; 96],
 }
 
 #[repr(C)]
-#[derive(Drop)]
+#[derive(Clone, Copy)]
 pub struct CSums {
     pub frame: u32,
     pub count: u32,
@@ -28,7 +28,7 @@ pub struct CSums {
 }
 
 #[repr(C)]
-#[derive(Drop)]
+#[derive(Clone, Copy)]
 pub struct CSolved {
     pub refusal: u8,
     pub taps: [i16; 22],

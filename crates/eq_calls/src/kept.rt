@@ -6,13 +6,13 @@ use eq::Equaliser;
 use sums::Sums;
 
 // The sums are those that a solving is asked of.
-#[derive(Drop)]
+#[derive(Clone, Copy)]
 pub struct Kept {
     pub eq: Equaliser,
     pub sums: Sums,
 }
 
-#[derive(Drop)]
+#[derive(Clone, Copy)]
 pub struct Turn {
     pub kept: Kept,
     pub told: [u64; 24],

@@ -7,14 +7,14 @@ use eq::TapsFrom;
 use sums::Sums;
 
 // The frame of taps: whether there is one, and its number.
-#[derive(Drop)]
+#[derive(Clone, Copy)]
 pub struct From {
     pub known: u64,
     pub frame: u64,
 }
 
 // Sums: frame, count, and digests of the entries.
-#[derive(Drop)]
+#[derive(Clone, Copy)]
 pub struct Digests {
     pub frame: u64,
     pub count: u64,

@@ -3,7 +3,7 @@ pub mod ranged;
 pub mod ranged_rows;
 
 // The sums of a line's products with the four rows.
-#[derive(Drop)]
+#[derive(Clone, Copy)]
 struct Dots {
     rh: i32,
     rl: i32,

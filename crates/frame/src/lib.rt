@@ -13,32 +13,32 @@ use eq::Equaliser;
 use frame_line::{LastAt, Meta, Metas};
 use phase::Corrected;
 
-#[derive(Drop)]
+#[derive(Clone, Copy)]
 pub struct Back {
     pub eq: Equaliser,
     pub metas: Metas,
     pub last: LastAt,
 }
 
-#[derive(Drop)]
+#[derive(Clone, Copy)]
 pub struct AlignedSymbol {
     pub meta: Meta,
     pub z: Symbol,
 }
 
-#[derive(Drop)]
+#[derive(Clone, Copy)]
 pub enum Aligned {
     Nothing,
     Given(AlignedSymbol),
 }
 
-#[derive(Drop)]
+#[derive(Clone, Copy)]
 pub struct Kept {
     pub refusal: u8,
     pub back: Back,
 }
 
-#[derive(Drop)]
+#[derive(Clone, Copy)]
 pub struct Pushed {
     pub refusal: u8,
     pub back: Back,

@@ -5,7 +5,7 @@ pub mod ranged;
 use sync_heads::{Slot, Word};
 
 // What a waiting symbol comes out with.
-#[derive(Drop)]
+#[derive(Clone, Copy)]
 pub struct Meta {
     pub at: u64,
     pub j: u16,
@@ -14,7 +14,7 @@ pub struct Meta {
 }
 
 // Up to five waiting symbols, the oldest first; places behind them are not looked at.
-#[derive(Drop)]
+#[derive(Clone, Copy)]
 pub struct Metas {
     pub count: u32,
     pub first: Meta,
@@ -25,7 +25,7 @@ pub struct Metas {
 }
 
 // The position of the last symbol that came.
-#[derive(Drop)]
+#[derive(Clone, Copy)]
 pub enum LastAt {
     Never,
     At(u64),

@@ -9,7 +9,7 @@ use angles::Symbol;
 use sync_heads::Word;
 
 // What stands at a place of the slot, with its index among those of its kind.
-#[derive(Drop)]
+#[derive(Clone, Copy)]
 pub enum SlotPart {
     Sync(u16),
     Pilot(u16),
@@ -18,7 +18,7 @@ pub enum SlotPart {
     Refused(u8),
 }
 
-#[derive(Drop)]
+#[derive(Clone, Copy)]
 pub enum Referred {
     Given(Symbol),
     Refused(u8),

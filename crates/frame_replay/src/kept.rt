@@ -8,7 +8,7 @@ use frame_line::{LastAt, Metas};
 use sums::Sums;
 
 // The sums are those that a solving is asked of.
-#[derive(Drop)]
+#[derive(Clone, Copy)]
 pub struct Kept {
     pub back: Back,
     pub sums: Sums,
@@ -16,7 +16,7 @@ pub struct Kept {
     pub s: [i8; 48],
 }
 
-#[derive(Drop)]
+#[derive(Clone, Copy)]
 pub struct Turn {
     pub kept: Kept,
     pub told: [u64; 24],

@@ -8,7 +8,7 @@ use eq_calls::told::{Digests, From};
 use frame_line::Meta;
 
 // An equaliser: digests of line and taps, the fill, the taps' frame, whether sums are open, and these.
-#[derive(Drop)]
+#[derive(Clone, Copy)]
 pub struct EqShown {
     pub line: u64,
     pub filled: u64,

@@ -7,7 +7,7 @@ ghost use Rattle.frame_wire.specs.Line.{last_of, count_put, last_shown};
 use frame_line::{LastAt, Metas};
 
 // Whether there is a last position, and that position.
-#[derive(Drop)]
+#[derive(Clone, Copy)]
 pub struct LastShown {
     pub known: u64,
     pub at: u64,

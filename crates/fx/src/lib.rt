@@ -9,69 +9,69 @@ ghost use Rattle.std.specs.Prelude.{◌≡◌};
 ghost use Rattle.fx.specs.Fx.{sat32_of, signed_angle};
 ghost use Rattle.fx.specs.Answers.{round_shift_answer, div_round_answer, mag_approx_answer, sat16_answer, sat127_answer, sat32_answer, cordic_answer, cordic_scale_answer, cos_sin_trunc_answer, cos_sin_round_answer};
 
-#[derive(Drop)]
+#[derive(Clone, Copy)]
 pub enum Whole {
     Value(i64),
     Refused(u8),
 }
 
-#[derive(Drop)]
+#[derive(Clone, Copy)]
 pub enum Whole32 {
     Value(i32),
     Refused(u8),
 }
 
-#[derive(Drop)]
+#[derive(Clone, Copy)]
 pub enum Whole16 {
     Value(i16),
     Refused(u8),
 }
 
-#[derive(Drop)]
+#[derive(Clone, Copy)]
 pub enum Whole8 {
     Value(i8),
     Refused(u8),
 }
 
-#[derive(Drop)]
+#[derive(Clone, Copy)]
 pub struct Polar {
     pub angle: u32,
     pub size: i64,
 }
 
-#[derive(Drop)]
+#[derive(Clone, Copy)]
 pub enum Turned {
     To(Polar),
     Refused(u8),
 }
 
 // A point on its way through the CORDIC: its parts, and the angle turned so far.
-#[derive(Drop)]
+#[derive(Clone, Copy)]
 pub struct Turn {
     pub x: i64,
     pub y: i64,
     pub z: u32,
 }
 
-#[derive(Drop)]
+#[derive(Clone, Copy)]
 pub struct Parts {
     pub re: i64,
     pub im: i64,
 }
 
-#[derive(Drop)]
+#[derive(Clone, Copy)]
 pub enum Scaled {
     By(Parts),
     Refused(u8),
 }
 
-#[derive(Drop)]
+#[derive(Clone, Copy)]
 pub struct CosSin {
     pub cos: i64,
     pub sin: i64,
 }
 
-#[derive(Drop)]
+#[derive(Clone, Copy)]
 pub enum Phasor {
     At(CosSin),
     Refused(u8),

@@ -11,7 +11,7 @@ ghost use Rattle.fx_replay.specs.Replay.{replayed};
 const BLOCK: usize = 24576;
 
 // What a block of input leaves to do.
-#[derive(Drop)]
+#[derive(Clone, Copy)]
 enum Next {
     Block,
     Nothing,

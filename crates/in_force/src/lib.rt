@@ -11,13 +11,13 @@ ghost use Rattle.in_force.specs.Answers.{next_answer, next_slice, sets_refusal, 
 use learn::Learn;
 
 // The frame that was learned on.
-#[derive(Drop)]
+#[derive(Clone, Copy)]
 pub enum Source {
     Never,
     Frame(u32),
 }
 
-#[derive(Drop)]
+#[derive(Clone, Copy)]
 pub struct InForce {
     pub learned: [bool; 5],
     pub n0: i64,
@@ -25,7 +25,7 @@ pub struct InForce {
     pub from: Source,
 }
 
-#[derive(Drop)]
+#[derive(Clone, Copy)]
 pub struct Renewed {
     pub refusal: u8,
     pub in_force: InForce,
@@ -65,7 +65,7 @@ pub fn next(f: InForce, l: Learn, frame: u32, learned: &mut [i16]) -> Renewed
 }
 
 // The points of a set: a part of one of the two slices, not copied. Where they are refused the part is empty.
-#[derive(Drop)]
+#[derive(Clone, Copy)]
 pub struct Chosen<'a> {
     pub points: &'a [i16],
     pub refusal: u8,

@@ -10,7 +10,7 @@ ghost use Rattle.learn.specs.Learning.{new_learn};
 ghost use Rattle.learn.specs.Answers.{pilot_answer, noise_answer, points_answer, points_slice, figure_answer};
 
 // Two sums and a count to a label; the sum and the number of the noise samples.
-#[derive(Drop)]
+#[derive(Clone, Copy)]
 pub struct Learn {
     pub sum: [i64; 124],
     pub count: [u32; 62],
@@ -18,14 +18,14 @@ pub struct Learn {
     pub samples: u32,
 }
 
-#[derive(Drop)]
+#[derive(Clone, Copy)]
 pub struct Learned {
     pub refusal: u8,
     pub learn: Learn,
 }
 
 // learned: the set's points are in the slice.
-#[derive(Drop)]
+#[derive(Clone, Copy)]
 pub struct Pointed {
     pub refusal: u8,
     pub learn: Learn,
@@ -33,14 +33,14 @@ pub struct Pointed {
 }
 
 // The noise figure, if there is a sample.
-#[derive(Drop)]
+#[derive(Clone, Copy)]
 pub enum Figure {
     Value(i64),
     None,
 }
 
 // The figure, and what was learned as it was handed in.
-#[derive(Drop)]
+#[derive(Clone, Copy)]
 pub struct Figured {
     pub refusal: u8,
     pub learn: Learn,

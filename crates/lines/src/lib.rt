@@ -10,7 +10,7 @@ use sync_heads::{Head, Slot, Word};
 use sync_step::{Event, SyncStats};
 
 // The place behind what was written; a refusal hands back the place that it was given, and nothing is written.
-#[derive(Drop)]
+#[derive(Clone, Copy)]
 pub struct Printed {
     pub refusal: u8,
     pub place: usize,

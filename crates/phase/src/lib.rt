@@ -13,20 +13,20 @@ use fx::Whole;
 use sync_heads::{Head, Slot, Word};
 
 // The current slot's head, and how many of its symbols came.
-#[derive(Drop)]
+#[derive(Clone, Copy)]
 pub struct Held {
     pub head: Head,
     pub count: u32,
 }
 
-#[derive(Drop)]
+#[derive(Clone, Copy)]
 pub enum SlotPhase {
     Idle,
     Holds(Held),
 }
 
 // A slot to correct: its head and the next, the phase step and the gain step a symbol, with 16 fraction bits, and the gain at its head.
-#[derive(Drop)]
+#[derive(Clone, Copy)]
 pub struct WholeSlot {
     pub head: Head,
     pub next: Head,
@@ -35,14 +35,14 @@ pub struct WholeSlot {
     pub gamma: i64,
 }
 
-#[derive(Drop)]
+#[derive(Clone, Copy)]
 pub enum Due {
     Nothing,
     Slot(WholeSlot),
 }
 
 // One corrected symbol.
-#[derive(Drop)]
+#[derive(Clone, Copy)]
 pub struct Corrected {
     pub at: u64,
     pub word: Word,
@@ -55,27 +55,27 @@ pub struct Corrected {
 }
 
 // The symbol, if it is not refused.
-#[derive(Drop)]
+#[derive(Clone, Copy)]
 pub enum Told {
     Nothing,
     Given(Corrected),
 }
 
 // A symbol of a slot, and the slot as it was handed in.
-#[derive(Drop)]
+#[derive(Clone, Copy)]
 pub struct Answered {
     pub refusal: u8,
     pub slot: WholeSlot,
     pub told: Told,
 }
 
-#[derive(Drop)]
+#[derive(Clone, Copy)]
 pub struct Kept {
     pub refusal: u8,
     pub phase: SlotPhase,
 }
 
-#[derive(Drop)]
+#[derive(Clone, Copy)]
 pub struct Headed {
     pub refusal: u8,
     pub phase: SlotPhase,

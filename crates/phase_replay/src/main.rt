@@ -14,7 +14,7 @@ ghost use Rattle.phase_replay.specs.Replay.{replayed, left_of, lent};
 const BLOCK: usize = 49152;
 
 // What a block of input leaves to do.
-#[derive(Drop)]
+#[derive(Clone, Copy)]
 enum Next {
     Block,
     Nothing,

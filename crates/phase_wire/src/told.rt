@@ -7,7 +7,7 @@ use phase::SlotPhase;
 use sync_heads::Head;
 
 // What may be absent: whether it is there, and its numbers.
-#[derive(Drop)]
+#[derive(Clone, Copy)]
 pub struct Shown {
     pub known: u64,
     pub first: u64,

@@ -19,7 +19,7 @@ use sync_heads::Record;
 use sync_step::Events;
 
 // What a loss or a restart keeps.
-#[derive(Drop)]
+#[derive(Clone, Copy)]
 pub struct Kept {
     pub phase: u32,
     pub freq: i32,
@@ -30,7 +30,7 @@ pub struct Kept {
 }
 
 // What every symbol moves.
-#[derive(Drop)]
+#[derive(Clone, Copy)]
 pub struct Front {
     pub nco: Nco,
     pub sync: SlotSync,
@@ -38,7 +38,7 @@ pub struct Front {
 }
 
 // The alignment moves with each corrected slot, the points with a load.
-#[derive(Drop)]
+#[derive(Clone, Copy)]
 pub struct Receiver {
     pub front: Front,
     pub back: Back,
@@ -46,7 +46,7 @@ pub struct Receiver {
 }
 
 // What the heads of one call leave of carrier and slot phase, and the slot that they complete.
-#[derive(Drop)]
+#[derive(Clone, Copy)]
 pub struct Listened {
     pub nco: Nco,
     pub phase: SlotPhase,
@@ -54,7 +54,7 @@ pub struct Listened {
 }
 
 // What a symbol answers.
-#[derive(Drop)]
+#[derive(Clone, Copy)]
 pub struct Answer {
     pub refusal: u8,
     pub receiver: Receiver,
@@ -63,14 +63,14 @@ pub struct Answer {
 }
 
 // What a new receiver, a load, a restart and an opening answer.
-#[derive(Drop)]
+#[derive(Clone, Copy)]
 pub struct Answered {
     pub refusal: u8,
     pub receiver: Receiver,
 }
 
 // What an end of sums answers; `ended`: sums were open, and these are they.
-#[derive(Drop)]
+#[derive(Clone, Copy)]
 pub struct Ended {
     pub refusal: u8,
     pub receiver: Receiver,

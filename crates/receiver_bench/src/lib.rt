@@ -8,7 +8,7 @@ use receiver::Receiver;
 use receiver_feed::Fed;
 
 #[repr(C)]
-#[derive(Drop)]
+#[derive(Clone, Copy)]
 pub struct Words {
     pub f: [i8; 48],
     pub s: [i8; 48],
@@ -16,7 +16,7 @@ pub struct Words {
 
 // Symbols taken, and the refusal of the last call.
 #[repr(C)]
-#[derive(Drop)]
+#[derive(Clone, Copy)]
 pub struct Received {
     pub taken: usize,
     pub refusal: u8,

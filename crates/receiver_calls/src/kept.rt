@@ -7,7 +7,7 @@ use sums::Sums;
 use sync_step::Events;
 
 // The sums are those that ended last, or that a call of the equaliser's kept; the events are those of the last play.
-#[derive(Drop)]
+#[derive(Clone, Copy)]
 pub struct Kept {
     pub receiver: Receiver,
     pub sums: Sums,
@@ -16,7 +16,7 @@ pub struct Kept {
     pub events: Events,
 }
 
-#[derive(Drop)]
+#[derive(Clone, Copy)]
 pub struct Turn {
     pub kept: Kept,
     pub told: [u64; 24],

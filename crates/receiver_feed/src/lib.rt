@@ -15,7 +15,7 @@ use sync_lock::Tally;
 use sync_step::Events;
 
 // The number of symbols used; events and runs are those of the last of them. A refusal comes with none used.
-#[derive(Drop)]
+#[derive(Clone, Copy)]
 pub struct Fed {
     pub refusal: u8,
     pub used: usize,
@@ -25,7 +25,7 @@ pub struct Fed {
 }
 
 // Where a feed stands; `done`: it stops there.
-#[derive(Drop)]
+#[derive(Clone, Copy)]
 struct Turn {
     refusal: u8,
     used: usize,
@@ -36,7 +36,7 @@ struct Turn {
 }
 
 // What symbols that tell nothing leave, besides window and stores.
-#[derive(Drop)]
+#[derive(Clone, Copy)]
 struct Moved {
     taken: usize,
     tally: Tally,
@@ -44,7 +44,7 @@ struct Moved {
 }
 
 // A receiver that went through some.
-#[derive(Drop)]
+#[derive(Clone, Copy)]
 struct Passed {
     taken: usize,
     receiver: Receiver,

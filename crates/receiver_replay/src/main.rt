@@ -18,7 +18,7 @@ use sync_step::{Event, Events};
 const BLOCK: usize = 49152;
 
 // What a block of input leaves to do.
-#[derive(Drop)]
+#[derive(Clone, Copy)]
 enum Next {
     Block,
     Nothing,
@@ -50,7 +50,7 @@ fn replay(
 }
 
 // What is kept after a block, and what is to be done.
-#[derive(Drop)]
+#[derive(Clone, Copy)]
 struct Left {
     kept: Kept,
     next: Next,

@@ -8,7 +8,7 @@ ghost use Rattle.receiver_state.specs.Turns.{turn_of};
 
 use receiver::Receiver;
 
-#[derive(Drop)]
+#[derive(Clone, Copy)]
 pub struct Turned {
     pub receiver: Receiver,
     pub told: [u64; 24],

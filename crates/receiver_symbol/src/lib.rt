@@ -13,7 +13,7 @@ use receiver::{Answer, Listened, Receiver};
 use sync_step::Step;
 
 // What a symbol comes to before anything is written: its window, the step of the slot sync, and what carrier and slot phase hear.
-#[derive(Drop)]
+#[derive(Clone, Copy)]
 pub struct Ahead {
     pub win: [i16; 48],
     pub step: Step,

@@ -7,7 +7,7 @@ ghost use Rattle.slot_wire.specs.Slots.{word_of, word_number, slot_shown};
 use sync_heads::{Slot, Word};
 
 // Whether the slot is known, its number and its frame.
-#[derive(Drop)]
+#[derive(Clone, Copy)]
 pub struct SlotShown {
     pub known: u64,
     pub number: u64,

@@ -9,7 +9,7 @@ ghost use Rattle.solve.specs.Answers.{solve_answer};
 use sums::Sums;
 
 // The 11 taps, each a pair, with 14 fraction bits; all 0 after a refusal.
-#[derive(Drop)]
+#[derive(Clone, Copy)]
 pub struct Solved {
     pub refusal: u8,
     pub taps: [i16; 22],

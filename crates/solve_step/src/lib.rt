@@ -11,21 +11,21 @@ ghost use Rattle.std.specs.Prelude.{◌≡◌};
 ghost use Rattle.solve_step.specs.Back.{solution_of};
 
 // The matrix row by row, and the right side: pairs, the real part before the imaginary part.
-#[derive(Drop)]
+#[derive(Clone, Copy)]
 pub struct System {
     pub a: [f64; 242],
     pub b: [f64; 22],
 }
 
 // A system after elimination. Refusal 10: it stopped at a pivot that is too small.
-#[derive(Drop)]
+#[derive(Clone, Copy)]
 pub struct Reduced {
     pub refusal: u8,
     pub system: System,
 }
 
 // The 11 unknowns; all 0 after a refusal.
-#[derive(Drop)]
+#[derive(Clone, Copy)]
 pub struct Solution {
     pub refusal: u8,
     pub x: [f64; 22],

@@ -5,14 +5,14 @@ ghost use Rattle.solve_step.specs.Pivot.{better_of, judged_of, pivot_of, InRange
 use crate::ranged;
 
 // The row of a column's greatest entry with its squared magnitude, or only this where it is too small.
-#[derive(Drop)]
+#[derive(Clone, Copy)]
 pub enum Pivot {
     Row(usize, f64),
     TooSmall(f64),
 }
 
 // The row to take so far, and the squared magnitude of its entry.
-#[derive(Drop)]
+#[derive(Clone, Copy)]
 pub struct Best {
     pub row: usize,
     pub size: f64,

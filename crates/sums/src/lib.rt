@@ -3,7 +3,7 @@ ghost use Rattle.std.specs.Prelude.{◌≡◌};
 ghost use Rattle.sums.specs.Sums.{empty_sums};
 
 // The 66 upper entries, row by row, and the 11 right-hand entries, each a pair: its real part before its imaginary part.
-#[derive(Drop)]
+#[derive(Clone, Copy)]
 pub struct Sums {
     pub frame: u32,
     pub count: u32,

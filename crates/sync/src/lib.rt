@@ -11,19 +11,19 @@ use sync_heads::Record;
 use sync_step::{Events, LastCorr, Run};
 
 // The last 24 symbols, oldest first, and all else.
-#[derive(Drop)]
+#[derive(Clone, Copy)]
 pub struct SlotSync {
     pub win: [i16; 48],
     pub run: Run,
 }
 
-#[derive(Drop)]
+#[derive(Clone, Copy)]
 pub struct Started {
     pub refusal: u8,
     pub sync: SlotSync,
 }
 
-#[derive(Drop)]
+#[derive(Clone, Copy)]
 pub struct Pushed {
     pub refusal: u8,
     pub sync: SlotSync,

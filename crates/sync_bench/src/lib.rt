@@ -4,7 +4,7 @@ ghost use Rattle.std.specs.Prelude.{◌≡◌};
 ghost use Rattle.sync_bench.specs.Streams.{pushed_stream, pushed_acc};
 
 #[repr(C)]
-#[derive(Drop)]
+#[derive(Clone, Copy)]
 pub struct Words {
     pub f: [i8; 48],
     pub w: [i8; 48],
@@ -12,7 +12,7 @@ pub struct Words {
 
 // Symbols taken, the accumulator at the last position, and the refusal of the last call.
 #[repr(C)]
-#[derive(Drop)]
+#[derive(Clone, Copy)]
 pub struct Streamed {
     pub taken: usize,
     pub level: u32,

@@ -6,20 +6,20 @@ mod rows;
 ghost use Rattle.std.specs.Prelude.{◌≡◌};
 ghost use Rattle.sync_corr.specs.Correlate.{correlate_answer};
 
-#[derive(Drop)]
+#[derive(Clone, Copy)]
 pub struct Corr {
     pub re: i32,
     pub im: i32,
 }
 
 // The correlations with the F word and with the S word.
-#[derive(Drop)]
+#[derive(Clone, Copy)]
 pub struct Both {
     pub f: Corr,
     pub s: Corr,
 }
 
-#[derive(Drop)]
+#[derive(Clone, Copy)]
 pub enum Correlated {
     Value(Corr),
     Refused(u8),

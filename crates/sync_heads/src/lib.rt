@@ -7,14 +7,14 @@ mod words;
 use sync_corr::{Both, Corr};
 
 // A window at the locked position: its first symbol's position, and its correlations.
-#[derive(Drop)]
+#[derive(Clone, Copy)]
 pub struct Reading {
     pub at: u64,
     pub both: Both,
 }
 
 // Which heads carry Ssync (the odd ones or the even ones), whether the next one does, and the last such correlation.
-#[derive(Drop)]
+#[derive(Clone, Copy)]
 pub struct Parity {
     pub odd: bool,
     pub due: bool,
@@ -22,28 +22,28 @@ pub struct Parity {
 }
 
 // Head zero is held until head one tells the parity.
-#[derive(Drop)]
+#[derive(Clone, Copy)]
 pub enum Stage {
     Before,
     First(Reading),
     Known(Parity),
 }
 
-#[derive(Drop)]
+#[derive(Clone, Copy)]
 pub enum Slot {
     Unknown,
     In { number: u8, frame: u32 },
 }
 
 // The last frame head.
-#[derive(Drop)]
+#[derive(Clone, Copy)]
 pub enum Record {
     Never,
     Last { at: u64, frame: u32 },
 }
 
 // What the heads so far come to: the majority of the F words' signs, slot and frame, and the marks that were missed or strayed.
-#[derive(Drop)]
+#[derive(Clone, Copy)]
 pub struct Course {
     pub majority: i32,
     pub slot: Slot,
@@ -53,14 +53,14 @@ pub struct Course {
     pub missed: u32,
 }
 
-#[derive(Drop)]
+#[derive(Clone, Copy)]
 pub enum Word {
     Ssync,
     Fsync,
     NotFsync,
 }
 
-#[derive(Drop)]
+#[derive(Clone, Copy)]
 pub struct Head {
     pub at: u64,
     pub word: Word,
@@ -71,28 +71,28 @@ pub struct Head {
     pub nco_phase: u32,
 }
 
-#[derive(Drop)]
+#[derive(Clone, Copy)]
 pub enum Headed {
     Nothing,
     One(Head),
 }
 
 // What a word is read as.
-#[derive(Drop)]
+#[derive(Clone, Copy)]
 pub struct Said {
     pub word: Word,
     pub corr: Corr,
 }
 
 // The course after a head, or that it was the second mark missed in a row.
-#[derive(Drop)]
+#[derive(Clone, Copy)]
 pub struct Marked {
     pub lost: bool,
     pub course: Course,
 }
 
 // What one head makes of the course, and the head as told.
-#[derive(Drop)]
+#[derive(Clone, Copy)]
 pub struct Told {
     pub lost: bool,
     pub course: Course,
@@ -100,7 +100,7 @@ pub struct Told {
 }
 
 // What a reading makes of stage and course, and the heads that it tells, in order.
-#[derive(Drop)]
+#[derive(Clone, Copy)]
 pub struct Taken {
     pub lost: bool,
     pub stage: Stage,

@@ -7,7 +7,7 @@ use crate::{given, mixing, told};
 use sync::SlotSync;
 
 // The sync, the words in force, and the last answer with the digest before it.
-#[derive(Drop)]
+#[derive(Clone, Copy)]
 pub struct Desk {
     pub sync: SlotSync,
     pub f: [i8; 48],

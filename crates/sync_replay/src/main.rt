@@ -22,7 +22,7 @@ ghost use Rattle.std.specs.Prelude.{◌≡◌, ◌+◌, ◌*◌, ◌≤◌, leng
 use desk::Desk;
 
 // What a block of input leaves to do.
-#[derive(Drop)]
+#[derive(Clone, Copy)]
 enum Next {
     Block,
     Nothing,
@@ -30,7 +30,7 @@ enum Next {
 }
 
 // The desk, and how much of the output is used.
-#[derive(Drop)]
+#[derive(Clone, Copy)]
 struct Turn {
     desk: Desk,
     used: usize,
@@ -140,7 +140,7 @@ fn replay(
 }
 
 // What a block leaves: the desk, and what is to be done.
-#[derive(Drop)]
+#[derive(Clone, Copy)]
 struct Left {
     desk: Desk,
     next: Next,

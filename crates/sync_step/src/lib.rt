@@ -9,7 +9,7 @@ use sync_heads::{Course, Head, Stage};
 use sync_lock::{Lock, Tally};
 
 // All of a sync but its window: where it was started, the symbols since, the running period, lock, stage of heads, and course.
-#[derive(Drop)]
+#[derive(Clone, Copy)]
 pub struct Run {
     pub base: u64,
     pub t: u64,
@@ -20,7 +20,7 @@ pub struct Run {
 }
 
 // The statistics of a period, after the lock rule.
-#[derive(Drop)]
+#[derive(Clone, Copy)]
 pub struct SyncStats {
     pub peak: u32,
     pub peak_pos: u16,
@@ -33,7 +33,7 @@ pub struct SyncStats {
 }
 
 // A loss tells the position of the restart.
-#[derive(Drop)]
+#[derive(Clone, Copy)]
 pub enum Event {
     Nothing,
     Head(Head),
@@ -42,7 +42,7 @@ pub enum Event {
 }
 
 // In order, from the first place on.
-#[derive(Drop)]
+#[derive(Clone, Copy)]
 pub struct Events {
     pub first: Event,
     pub second: Event,
@@ -50,7 +50,7 @@ pub struct Events {
 }
 
 // What the symbol stores: nothing, the accumulator of its position, or zeros in all of them and in the window.
-#[derive(Drop)]
+#[derive(Clone, Copy)]
 pub enum Stores {
     Nothing,
     One(u32),
@@ -58,13 +58,13 @@ pub enum Stores {
 }
 
 // The correlations at the last position and its accumulator; zeros before the first and after a loss.
-#[derive(Drop)]
+#[derive(Clone, Copy)]
 pub struct LastCorr {
     pub both: Both,
     pub level: u32,
 }
 
-#[derive(Drop)]
+#[derive(Clone, Copy)]
 pub struct Step {
     pub run: Run,
     pub stores: Stores,

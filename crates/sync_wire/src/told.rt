@@ -7,7 +7,7 @@ use sync_lock::Lock;
 use sync_step::Run;
 
 // Whether it is locked, candidate or offset, count or misses; whether there is a record, its position and frame.
-#[derive(Drop)]
+#[derive(Clone, Copy)]
 pub struct ThreeShown {
     pub known: u64,
     pub first: u64,
@@ -15,7 +15,7 @@ pub struct ThreeShown {
 }
 
 // 0, 1 or 2, and the numbers of that stage.
-#[derive(Drop)]
+#[derive(Clone, Copy)]
 pub struct StageShown {
     pub stage: u64,
     pub first: u64,
