@@ -1,6 +1,8 @@
 // Reads a capture from standard input and prints its lines: document 01, "Capture". What is printed for an answer stands in crate bench_text; here it
 // is only read, called and written, in blocks of 65,536 bytes, whatever the capture's length. How it reads and writes where the system fails it or lets it wait
 // stands in system.rt: such a failure ends the program, with the lines so far and no last one.
+#![tactic(auto)]
+
 mod system;
 
 ghost use Rattle.std.specs.Prelude.{◌≡◌, true, ◌+◌, ◌≤◌, ◌<◌, length, drop};

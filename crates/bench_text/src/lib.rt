@@ -1,4 +1,6 @@
 // What an answer of the receiver prints, in a lent buffer, for the bench program: document 01, "Capture".
+#![tactic(auto)]
+
 pub mod ranged;
 
 // Where a page stands: the next symbol of its run, the next soft value, the next place in the buffer.

@@ -1,5 +1,7 @@
 // The C boundary: the entries of fx and some of the stages' as C functions, with no `requires`, since C could not be held to one. An answer is
 // a struct by value (docs/DECISIONS.md, F.3). Here is fx; `stages` has the stages' on numbers and slices, `arrays` those on whole arrays.
+#![tactic(auto)]
+
 pub mod arrays;
 pub mod stages;
 

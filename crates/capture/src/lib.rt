@@ -1,4 +1,6 @@
 // The container of a capture, document 01, "Capture": contents, the bodies before the symbols, and the symbols block by block.
+#![tactic(auto)]
+
 mod bodies;
 mod entries;
 mod numbers;

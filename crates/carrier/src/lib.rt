@@ -1,4 +1,6 @@
 // The carrier, after `Nco` of chain/sync.rs. The state goes in by value and comes back; the carrier table is lent.
+#![tactic(auto)]
+
 pub mod plain;
 pub mod ranged;
 mod refusals;

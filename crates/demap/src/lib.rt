@@ -1,5 +1,7 @@
 // The max-log demapper, after chain/demap.rs: the soft bits of a symbol, most significant first. Points are lent, as pairs in the order of
 // their labels, I before Q.
+#![tactic(auto)]
+
 mod levels;
 pub mod ranged;
 mod refusals;

@@ -1,4 +1,6 @@
 // What compare/src/bench_demap.rs measures: a block of symbols through the demapper, as a C function. It is no entry (docs/DECISIONS.md, F.19).
+#![tactic(auto)]
+
 ghost use Rattle.std.specs.Prelude.{◌≡◌, ◌/◌, length};
 ghost use Rattle.demap.specs.Answers.{block_refusal, block_buffer};
 

@@ -1,4 +1,6 @@
 // Digests of lists, for the replay programs: what many numbers are is told by one.
+#![tactic(auto)]
+
 ghost use Rattle.std.specs.Prelude.{◌≡◌};
 ghost use Rattle.wire.specs.Wire.{bits};
 ghost use Rattle.digest.specs.Digest.{mixed_of, digest_of, naturals_of};

@@ -1,4 +1,6 @@
 // The equaliser, after `Equaliser` of chain/eq.rs. The state goes in by value and comes back.
+#![tactic(auto)]
+
 pub mod plain;
 pub mod ranged;
 

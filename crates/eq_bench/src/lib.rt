@@ -1,5 +1,7 @@
 // What compare/src/bench_eq.rs measures: a block of symbols through the filter, a training at each of them, and a solve, as C functions.
 // They are no entries (docs/DECISIONS.md, F.19).
+#![tactic(auto)]
+
 ghost use Rattle.std.specs.Prelude.{◌≡◌, ◌/◌, ◌≤◌, length};
 ghost use Rattle.eq_fir.specs.Rows.{Bytes, rows_of};
 ghost use Rattle.eq_bench.specs.Blocks.{filtered, filtered_by, in_byte, in_bytes, filtered_code, filtered_out, solved_of, trained_along, trained_c};

@@ -1,4 +1,6 @@
 // Calls of equaliser and solver as 24 numbers, and their answers as 24 more, for the replay programs; compare/README.md lists them.
+#![tactic(auto)]
+
 mod calls;
 mod given;
 pub mod kept;

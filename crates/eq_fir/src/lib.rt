@@ -1,4 +1,6 @@
 // The equaliser's line of 11 symbols and its filter, after `push` and `output` of chain/eq.rs.
+#![tactic(auto)]
+
 pub mod ranged;
 pub mod ranged_rows;
 

@@ -2,6 +2,8 @@
 // numbers of 8 bytes, least byte first; compare/README.md lists the calls and what their numbers are. The program keeps one equaliser, and the
 // sums that a solving is asked of.
 // Input that ends within a call is told on standard error: a Rattle program has no exit status to tell it by.
+#![tactic(auto)]
+
 ghost use Rattle.std.specs.Prelude.{◌≡◌, ◌+◌, ◌*◌, ◌≤◌, length, drop};
 ghost use Rattle.std.proofs.Math.Seq.{paste};
 ghost use Rattle.eq_replay.specs.Replay.{answer_bytes, after, replayed, left_of};

@@ -1,4 +1,6 @@
 // What the replay programs of calls of 24 numbers share: numbers as fields, flags, lent parts.
+#![tactic(auto)]
+
 pub mod plain;
 pub mod ranged;
 

@@ -1,5 +1,7 @@
 // The symbol alignment, after `Back::push` of chain/frame.rs: a corrected symbol goes in, the one five before it comes out, equalised, with its
 // own position, slot index, word and numbers. The state goes in by value and comes back.
+#![tactic(auto)]
+
 pub mod plain;
 pub mod ranged;
 mod refusals;

@@ -1,4 +1,6 @@
 // The symbols that wait for their equalised value, after `metas` and `last_at` of `Back` in chain/frame.rs.
+#![tactic(auto)]
+
 pub mod plain;
 pub mod ranged;
 

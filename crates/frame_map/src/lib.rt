@@ -1,4 +1,6 @@
 // The slot map and the training reference of a sync symbol, after `part` and `Back::symbol` of chain/frame.rs.
+#![tactic(auto)]
+
 pub mod ranged;
 
 ghost use Rattle.std.specs.Prelude.{◌≡◌};

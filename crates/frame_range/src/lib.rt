@@ -1,1 +1,2 @@
 // The joint invariant of an alignment that came from calls, and that calls keep it: specs/, proofs/Theorems.antt. There is no code here.
+#![tactic(auto)]

@@ -2,6 +2,8 @@
 // bytes, least byte first; compare/README.md lists the calls and what their numbers are. The program keeps one alignment, both words, and the
 // sums that a solving is asked of.
 // Input that ends within a call is told on standard error: a Rattle program has no exit status to tell it by.
+#![tactic(auto)]
+
 mod call;
 mod calls;
 mod given;

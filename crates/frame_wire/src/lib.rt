@@ -1,4 +1,6 @@
 // What waits in the alignment as numbers of calls and answers, for the replay programs.
+#![tactic(auto)]
+
 pub mod ranged;
 
 ghost use Rattle.std.specs.Prelude.{◌≡◌};

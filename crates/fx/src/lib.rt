@@ -1,5 +1,7 @@
 // Fixed-point arithmetic, after chain/fx.rs. Each function here takes any arguments and answers the value or document 01's refusal
 // number. `ranged` has the plain values, for crates that prove the range themselves.
+#![tactic(auto)]
+
 pub mod plain;
 pub mod ranged;
 mod sizes;

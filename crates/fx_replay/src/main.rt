@@ -2,6 +2,8 @@
 // a, b). Standard output: an answer of 24 bytes (refusal, x, y) for each call. All numbers are least byte first. A function that there
 // is not is refused with 255, a number that document 01 gives no meaning.
 // Input that ends within the table or a call is told on standard error: a Rattle program has no exit status to tell it by.
+#![tactic(auto)]
+
 mod call;
 
 ghost use Rattle.std.specs.Prelude.{◌≡◌, ◌*◌, ◌≤◌, length};

@@ -1,5 +1,7 @@
 // The constellation and the scale that a frame is demapped with, after `InForce` of chain/demap.rs: which sets are learned, the noise figure
 // and its scale. The points stand in two lent slices of 124 i16, learned and nominal, each with the sets of 1 to 5 bits in turn.
+#![tactic(auto)]
+
 pub mod plain;
 pub mod ranged;
 mod refusals;

@@ -1,1 +1,2 @@
 // Definitions (specs/) and laws (proofs/) that the other crates cite. There is no code here.
+#![tactic(auto)]

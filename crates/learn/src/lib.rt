@@ -1,5 +1,7 @@
 // What a frame's pilots and noise samples teach, after `Learn` of chain/demap.rs. The state goes in by value and comes back. Its sums, and the
 // lent slice that learned points are written to, hold the sets of 1 to 5 bits in turn, two numbers to a label, I before Q.
+#![tactic(auto)]
+
 mod means;
 pub mod ranged;
 pub mod ranges;

@@ -1,1 +1,2 @@
 // Theorems about what is learned by calls, and about the points in force. There is no code here.
+#![tactic(auto)]

@@ -1,4 +1,6 @@
 // The lines that the bench program prints, written into a lent buffer: document 01, "Capture".
+#![tactic(auto)]
+
 mod put;
 
 ghost use Rattle.std.specs.Prelude.{◌≡◌, ◌+◌, ◌≤◌, leb, length};

@@ -1,5 +1,7 @@
 // The slot correction, after chain/phase.rs: each symbol of a slot divided by the carrier phase and amplitude between the slot's head and the
 // next. The state goes in by value and comes back; the slot store, 9,296 pairs, and the carrier table are lent.
+#![tactic(auto)]
+
 pub mod plain;
 pub mod ranged;
 mod refusals;

@@ -1,4 +1,6 @@
 // What compare/src/bench_phase.rs measures: symbols rotated in a block, and a slot corrected, as C functions. They are no entries (docs/DECISIONS.md, F.19).
+#![tactic(auto)]
+
 ghost use Rattle.std.specs.Prelude.{◌≡◌, ◌+◌, ◌/◌, ◌≤◌, ◌^◌, length};
 ghost use Rattle.phase.specs.Ranges.{WholeOk};
 ghost use Rattle.phase_bench.specs.Blocks.{turned, rotated_all, rotated_phase, rotated_out};

@@ -1,1 +1,2 @@
 // Theorems about slot phases that came from calls. There is no code here.
+#![tactic(auto)]

@@ -1,4 +1,6 @@
 // Carrier, heads and slot phase as numbers of calls and answers, for the replay programs.
+#![tactic(auto)]
+
 pub mod ranged;
 pub mod told;
 

@@ -1,4 +1,6 @@
 // The receiver: the stages wired as document 01, "The receiver", says. What each call means stands in specs/.
+#![tactic(auto)]
+
 mod loads;
 pub mod plain;
 mod refusals;

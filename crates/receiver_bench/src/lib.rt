@@ -1,4 +1,6 @@
 // What compare/src/bench_receiver.rs measures: a stream through `feed` and through `symbol` of a new receiver, as C functions. They are no entries (docs/DECISIONS.md, F.19).
+#![tactic(auto)]
+
 ghost use Rattle.std.specs.Prelude.{◌≡◌, ◌+◌, ◌*◌, ◌/◌, ◌≤◌, ◌<◌, ◌^◌, length};
 ghost use Rattle.receiver.specs.Feed.{feed_of};
 ghost use Rattle.receiver_feed.specs.Answers.{feed_answer};

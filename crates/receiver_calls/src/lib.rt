@@ -1,4 +1,6 @@
 // Packed calls of a receiver that take no store, with their answers, for the replay program.
+#![tactic(auto)]
+
 mod calls;
 mod given;
 pub mod kept;

@@ -1,5 +1,7 @@
 // Many symbols in one call: those that tell nothing go by a short loop, each other one is a symbol's call. What it means stands in crate receiver,
 // specs/Feed.antt.
+#![tactic(auto)]
+
 mod quiet;
 mod ready;
 mod stretch;

@@ -1,4 +1,6 @@
 // Symbols given to a receiver one by one, up to the first that tells anything or is refused; for the replay program. What comes of it is told as `feed` tells it.
+#![tactic(auto)]
+
 pub mod ranged;
 
 ghost use Rattle.std.specs.Prelude.{◌≡◌};

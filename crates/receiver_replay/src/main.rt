@@ -3,6 +3,8 @@
 // the last play, sums, the carrier table and the stores, each with a few entries more than a call takes, so that too many can be lent; and bytes of
 // symbols, the input, which many calls fill and one feed takes, since a call has room for 72 symbols only.
 // Standard input that ends within a call is told on standard error: a Rattle program has no exit status to tell it by.
+#![tactic(auto)]
+
 mod call;
 mod given;
 mod stores;

@@ -1,4 +1,6 @@
 // What a corrected slot gives: aligned symbols, trainings, soft bits. What it means stands in specs/.
+#![tactic(auto)]
+
 mod bits;
 mod groups;
 pub mod ranged;

@@ -1,4 +1,6 @@
 // A receiver's parts told as numbers and replaced by numbers, for the replay program: what no call of the receiver shows or leaves.
+#![tactic(auto)]
+
 mod put;
 mod told;
 mod with;

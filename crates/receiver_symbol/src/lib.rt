@@ -1,4 +1,6 @@
 // A symbol of the receiver. All is known before anything is written.
+#![tactic(auto)]
+
 mod after;
 mod heads;
 mod looks;

@@ -1,4 +1,6 @@
 // Words, slots and correlations as numbers of calls and answers, for the replay programs.
+#![tactic(auto)]
+
 pub mod ranged;
 
 ghost use Rattle.std.specs.Prelude.{◌≡◌};

@@ -1,4 +1,6 @@
 // The taps of a frame's training sums, after `solve_sums` of chain/eq.rs.
+#![tactic(auto)]
+
 mod range;
 mod system;
 mod taps;

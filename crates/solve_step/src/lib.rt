@@ -1,5 +1,7 @@
 // A linear system of 11 equations, solved in f64, after `solve` of phy eq.rs: elimination by columns, then back substitution. The matrix is
 // one flat array by value; the functions that change it are lent it.
+#![tactic(auto)]
+
 mod back;
 pub mod complex;
 mod eliminate;

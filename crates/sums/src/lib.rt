@@ -1,4 +1,6 @@
 // The training sums of one frame, after `Sums` of chain/eq.rs: kept by the equaliser, given to the solver.
+#![tactic(auto)]
+
 ghost use Rattle.std.specs.Prelude.{◌≡◌};
 ghost use Rattle.sums.specs.Sums.{empty_sums};
 

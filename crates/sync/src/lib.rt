@@ -1,5 +1,7 @@
 // The slot sync, after `SlotSync` of chain/sync.rs. The state goes in by value and comes back; the 9,296 accumulators are lent, and so are the
 // two words, as 24 pairs each, I before Q.
+#![tactic(auto)]
+
 pub mod plain;
 pub mod ranged;
 mod refusals;

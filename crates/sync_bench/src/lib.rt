@@ -1,5 +1,7 @@
 // What compare/src/bench_sync.rs measures: a stream through the slot sync, symbol by symbol, as a C function. It is no entry
 // (docs/DECISIONS.md, F.19).
+#![tactic(auto)]
+
 ghost use Rattle.std.specs.Prelude.{◌≡◌};
 ghost use Rattle.sync_bench.specs.Streams.{pushed_stream, pushed_acc};
 

@@ -1,4 +1,6 @@
 // Correlation of 24 symbols with the sync words, after `correlate` of chain/sync.rs. Symbols and words are lists of 24 pairs, I before Q.
+#![tactic(auto)]
+
 pub mod plain;
 pub mod ranged;
 mod rows;

@@ -1,4 +1,6 @@
 // Heads: the word of a reading, the majority, marks and frame numbers, after `head_at`, `word_head` and `new_frame` of chain/sync.rs.
+#![tactic(auto)]
+
 mod frames;
 pub mod plain;
 pub mod ranged;

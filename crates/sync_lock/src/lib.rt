@@ -1,4 +1,6 @@
 // The lock: the figures of a period and the rule at its end, after `push` and `period_end` of chain/sync.rs.
+#![tactic(auto)]
+
 pub mod plain;
 pub mod ranged;
 

@@ -12,6 +12,8 @@
 //   8 set: accumulator n to v
 // An answer: digest, refusal, F and S correlation (re, im), accumulator, three events of eleven numbers.
 // Input that ends within a call is told on standard error: a Rattle program has no exit status to tell it by.
+#![tactic(auto)]
+
 mod desk;
 mod given;
 mod mixing;

@@ -1,5 +1,7 @@
 // One symbol of the slot sync, after `push` and `period_end` of chain/sync.rs: a pure step. It is given the correlations of the window
 // that the symbol completes and the accumulator of its position, and says what is to be stored, so that nothing is written before all is known.
+#![tactic(auto)]
+
 mod ends;
 pub mod plain;
 pub mod ranged;

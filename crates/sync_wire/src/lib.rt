@@ -1,4 +1,6 @@
 // A slot sync as numbers of calls and answers, for the replay program of the receiver: its run, the heads of that run, its window.
+#![tactic(auto)]
+
 mod given;
 pub mod told;
 

@@ -1,4 +1,6 @@
 // Numbers as bytes, for the replay programs: least byte first, a negative number as 2^64 (2^32, 2^16, 2^8) more.
+#![tactic(auto)]
+
 pub mod ranged;
 
 ghost use Rattle.std.specs.Prelude.{◌≡◌, ◌++◌, ◌+◌, ◌*◌, ◌<◌, ◌%◌, ◌^◌, length};

@@ -1,0 +1,22 @@
+-- The stores keep their lengths. Assumes nothing.
+use mathlib.Core.Path.{◌∙◌}
+use borrow.Author.Rules.{rules}
+use Rattle.bench.proofs.accepted.Goals as goal
+
+pub blocks-b-requires : goal.blocks-b-requires
+blocks-b-requires c = c.begin-a.auto.1.1.1.1.1.1.1.1.0 ∙ c.requires.0
+
+pub conclude-requires : goal.conclude-requires
+conclude-requires c = c.blocks-b.auto.1.1.1.1.1.1.1.1.1.0 ∙ c.begin-a.auto.1.1.1.1.1.1.1.1.0 ∙ c.requires.0
+
+pub shape_of-signed : goal.shape_of-signed
+shape_of-signed c = c.blocks-b.auto.1.1.0 ∙ c.begin-a.auto.1.1.1.0
+
+pub shape_of-acc : goal.shape_of-acc
+shape_of-acc c = c.blocks-b.auto.1.1.1.1.1.1.0 ∙ c.begin-a.auto.1.1.1.1.1.0
+
+pub shape_of-store : goal.shape_of-store
+shape_of-store c = c.blocks-b.auto.1.1.1.1.1.1.1.0 ∙ c.begin-a.auto.1.1.1.1.1.1.0
+
+pub shape_of-soft : goal.shape_of-soft
+shape_of-soft c = c.blocks-b.auto.1.1.1.1.1.1.1.1.0 ∙ c.begin-a.auto.1.1.1.1.1.1.1.0

@@ -1,0 +1,21 @@
+use lib.ListN.{length, drop}
+use mathlib.Core.Bool.{true}
+use mathlib.Core.List.{List, []}
+use mathlib.Core.Path.{◌≡◌, refl, sym, ap, ◌∙◌}
+use Prim.Native.Nat.{ℕ, suc, ◌-◌, ◌≤◌, ◌<◌}
+use native.Mathlib.Omega.{arith}
+use lib.IntN.{ℤ}
+use borrow.Author.Rules.{rules}
+use Rattle.laws.proofs.Tests.{never}
+use Rattle.receiver_slot.specs.declared.AlignedRun.{AlignedRun}
+use Rattle.bench_text.specs.Pages.{Paged, paged_by, page_of}
+use Rattle.bench_text.specs.declared.Page.{Page}
+use Rattle.bench_text.specs.Claims.{Sent, pages_from, run_on}
+use Rattle.bench_text.proofs.Theorems.{turn_last, turn_on}
+use Rattle.bench.proofs.run.Given as goal
+
+abbrev pub invariant-loop-turns : goal.invariant-loop-turns
+invariant-loop-turns l = (l.u ≤ length l.soft) × (length l.out ≡ length l.place) × (l.ok ≡ true → led l.turns l.r (page l.i (drop l.u l.soft) l.to l.out) ≡ led l.initial.turns l.r (page l.initial.i (drop l.initial.u l.soft) l.initial.to l.place)) × (0 < l.turns → l.ok ≡ true)
+
+abbrev pub decreases-loop-turns : goal.decreases-loop-turns
+decreases-loop-turns l = l.turns

@@ -1,0 +1,6 @@
+-- `c_api::arrays::sv_reference` meets its contract. Assumes nothing.
+use borrow.Author.Rules.{rules}
+use Rattle.c_api.proofs.arrays.sv_reference.Goals as goal
+
+pub returns : goal.returns
+returns c = rw (c.of_referred.ensures, c.reference.ensures, c.word_numbered-w.ensures)

@@ -1,0 +1,9 @@
+-- `c_api::sv_cordic` meets its contract. Assumes nothing.
+use mathlib.Core.Path.{ap, ◌∙◌}
+use borrow.Author.Rules.{rules}
+use mir.Facts.{to_z-of_z}
+use Rattle.c_api.specs.Api.{polar_numbers}
+use Rattle.c_api.proofs.sv_cordic.Goals as goal
+
+pub returns : goal.returns
+returns c = c.of_turned.ensures ∙ ap polar_numbers (rw (to_z-of_z c.ranges.re, to_z-of_z c.ranges.im) at c.cordic.ensures)

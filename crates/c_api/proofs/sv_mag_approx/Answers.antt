@@ -1,0 +1,9 @@
+-- `c_api::sv_mag_approx` meets its contract. Assumes nothing.
+use mathlib.Core.Path.{ap, ◌∙◌}
+use borrow.Author.Rules.{rules}
+use mir.Facts.{to_z-of_z}
+use Rattle.c_api.specs.Api.{number}
+use Rattle.c_api.proofs.sv_mag_approx.Goals as goal
+
+pub returns : goal.returns
+returns c = c.of_whole.ensures ∙ ap number (rw (to_z-of_z c.ranges.re, to_z-of_z c.ranges.im) at c.mag_approx.ensures)

@@ -1,0 +1,9 @@
+-- `c_api::sv_sat127` meets its contract. Assumes nothing.
+use mathlib.Core.Path.{ap, ◌∙◌}
+use borrow.Author.Rules.{rules}
+use mir.Facts.{to_z-of_z}
+use Rattle.c_api.specs.Api.{number8}
+use Rattle.c_api.proofs.sv_sat127.Goals as goal
+
+pub returns : goal.returns
+returns c = c.of_whole8.ensures ∙ ap number8 (rw (to_z-of_z c.ranges.v) at c.sat127.ensures)

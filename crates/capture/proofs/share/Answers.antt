@@ -1,0 +1,8 @@
+-- `capture::share` meets its contract. Assumes nothing.
+use borrow.Author.Rules.{rules}
+use Rattle.capture.specs.Blocks.{shared_of}
+use Rattle.capture.proofs.share.Goals as goal
+
+pub returns : goal.returns
+unfolding shared_of
+returns c = rw c.lesser.ensures

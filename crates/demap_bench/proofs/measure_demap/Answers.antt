@@ -1,0 +1,7 @@
+-- `demap_bench::measure_demap` meets its contract. Assumes nothing.
+use borrow.Author.Rules.{rules}
+use mir.Facts.{to_z-of_z}
+use Rattle.demap_bench.proofs.measure_demap.Goals as goal
+
+pub returns : goal.returns
+returns c = rw (to_z-of_z c.ranges.k) at c.demap_block.ensures

@@ -1,0 +1,11 @@
+use Rattle.std.proofs.Common.{◌≡◌, ◌-◌, ◌≤◌, length, get_or, pos, ◌∙◌, arith, w16, rules}
+use Rattle.laws.proofs.Size.{back}
+use Rattle.digest.specs.Digest.{digest_to, digest_of}
+use Rattle.digest.proofs.Laws.{digest_more, digest_none}
+use Rattle.digest.proofs.of_i16.Given as goal
+
+abbrev pub invariant-loop-k : goal.invariant-loop-k
+invariant-loop-k l = (l.k ≤ length l.l) × (l.d ≡ digest_to l.l l.k)
+
+abbrev pub decreases-loop-k : goal.decreases-loop-k
+decreases-loop-k l = length l.l - l.k

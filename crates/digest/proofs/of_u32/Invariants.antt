@@ -1,0 +1,10 @@
+use Rattle.std.proofs.Common.{◌≡◌, ◌-◌, ◌≤◌, length, ◌∙◌, arith, rules}
+use Rattle.digest.proofs.Laws.{naturals_more, naturals_none}
+use Rattle.digest.specs.Digest.{naturals_of, naturals_to}
+use Rattle.digest.proofs.of_u32.Given as goal
+
+abbrev pub invariant-loop-k : goal.invariant-loop-k
+invariant-loop-k l = (l.k ≤ length l.l) × (l.d ≡ naturals_to l.l l.k)
+
+abbrev pub decreases-loop-k : goal.decreases-loop-k
+decreases-loop-k l = length l.l - l.k

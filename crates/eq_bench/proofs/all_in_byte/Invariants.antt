@@ -1,0 +1,17 @@
+use mathlib.Core.Bool.{◌&&◌}
+use mathlib.Core.Path.{ap₂, ◌≡◌, refl, ◌∙◌}
+use Prim.Native.Nat.{◌-◌, ◌≤◌}
+use native.Mathlib.Numerals.{add-one}
+use native.Mathlib.Omega.{arith}
+use borrow.Author.Rules.{rules}
+use mir.Syntax.{w16}
+use Rattle.eq_train.specs.Train.{nth}
+use Rattle.laws.proofs.Size.{back}
+use Rattle.eq_bench.specs.Blocks.{in_bytes}
+use Rattle.eq_bench.proofs.all_in_byte.Given as goal
+
+abbrev pub invariant-loop-k : goal.invariant-loop-k
+invariant-loop-k l = (l.k ≤ 96) × (l.all ≡ in_bytes l.rows l.k)
+
+abbrev pub decreases-loop-k : goal.decreases-loop-k
+decreases-loop-k l = 96 - l.k

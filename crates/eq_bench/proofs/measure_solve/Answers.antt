@@ -1,0 +1,8 @@
+-- `eq_bench::measure_solve` meets its contract. Assumes nothing.
+use borrow.Author.Rules.{rules}
+use Rattle.eq_bench.specs.Blocks.{solved_of}
+use Rattle.eq_bench.proofs.measure_solve.Goals as goal
+
+pub returns : goal.returns
+unfolding solved_of
+returns c = rw c.solve_sums-a.ensures

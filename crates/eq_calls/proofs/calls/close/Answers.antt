@@ -1,0 +1,8 @@
+-- `eq_calls::calls::close` meets its contract. Assumes nothing.
+use Rattle.eq_calls.specs.Calls.{close_call}
+use borrow.Author.Rules.{rules}
+use Rattle.eq_calls.proofs.calls.close.Goals as goal
+
+pub returns : goal.returns
+unfolding close_call
+returns c = rw (c.turned.ensures, c.told-t.ensures, c.flag-f.ensures, c.close-r.ensures)

@@ -1,0 +1,8 @@
+-- `eq_calls::calls::line` meets its contract. Assumes nothing.
+use Rattle.eq_calls.specs.Calls.{line_call}
+use borrow.Author.Rules.{rules}
+use Rattle.eq_calls.proofs.calls.line.Goals as goal
+
+pub returns : goal.returns
+unfolding line_call
+returns c = rw (c.plain.ensures, c.line_put.ensures, c.sixteens-t.ensures)

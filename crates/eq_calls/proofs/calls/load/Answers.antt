@@ -1,0 +1,8 @@
+-- `eq_calls::calls::load` meets its contract. Assumes nothing.
+use Rattle.eq_calls.specs.Calls.{load_call}
+use borrow.Author.Rules.{rules}
+use Rattle.eq_calls.proofs.calls.load.Goals as goal
+
+pub returns : goal.returns
+unfolding load_call
+returns c = rw (c.plain.ensures, c.load-r.ensures, c.low32.ensures, c.sixteens-t.ensures)

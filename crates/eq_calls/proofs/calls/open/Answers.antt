@@ -1,0 +1,8 @@
+-- `eq_calls::calls::open` meets its contract. Assumes nothing.
+use Rattle.eq_calls.specs.Calls.{open_call}
+use borrow.Author.Rules.{rules}
+use Rattle.eq_calls.proofs.calls.open.Goals as goal
+
+pub returns : goal.returns
+unfolding open_call
+returns c = rw (c.plain.ensures, c.open-r.ensures, c.low32.ensures)

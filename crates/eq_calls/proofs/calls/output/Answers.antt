@@ -1,0 +1,8 @@
+-- `eq_calls::calls::output` meets its contract. Assumes nothing.
+use Rattle.eq_calls.specs.Calls.{output_call}
+use borrow.Author.Rules.{rules}
+use Rattle.eq_calls.proofs.calls.output.Goals as goal
+
+pub returns : goal.returns
+unfolding output_call
+returns c = rw (c.turned.ensures, c.symbol_told-t.ensures, c.with_eq-n.ensures, c.output-r.ensures)

@@ -1,0 +1,18 @@
+use Prim.Native.Nat.{ℕ, ◌+◌, ◌-◌, ◌≤◌}
+use Rattle.laws.proofs.Lists.{firsts-step}
+use Rattle.laws.specs.Ranges.{firsts}
+use lib.ListN.{drop, drop_of_length-le}
+use mathlib.Core.List.{[], ◌++◌, append-nil}
+use mathlib.Core.Path.{◌∙◌, ◌≡◌, refl}
+use native.Mathlib.Omega.{arith}
+use Rattle.fields.specs.Fields.{signed64}
+use Rattle.eq_calls.specs.Given.{wides_of}
+use mir.Facts.{to_z-of_z}
+use borrow.Author.Rules.{rules}
+use Rattle.eq_calls.proofs.given.wides.Given as goal
+
+abbrev pub invariant-loop-k : goal.invariant-loop-k
+invariant-loop-k l = (l.k ≤ 22) × (l.t ≡ firsts (λ (l.k : ℕ). signed64 l.p (l.k + 2)) l.k ++ drop l.k l.initial.t)
+
+abbrev pub decreases-loop-k : goal.decreases-loop-k
+decreases-loop-k l = 22 - l.k

@@ -1,0 +1,16 @@
+use Prim.Native.Nat.{◌-◌, ◌≤◌}
+use Rattle.laws.proofs.Lists.{firsts-step}
+use Rattle.laws.specs.Ranges.{firsts}
+use lib.ListN.{drop, drop_of_length-le}
+use mathlib.Core.List.{[], ◌++◌, append-nil}
+use mathlib.Core.Path.{◌∙◌, ◌≡◌, refl}
+use native.Mathlib.Omega.{arith}
+use Rattle.eq_calls.specs.Told.{solved_at, solved_told}
+use borrow.Author.Rules.{rules}
+use Rattle.eq_calls.proofs.told.solved.Given as goal
+
+abbrev pub invariant-loop-k : goal.invariant-loop-k
+invariant-loop-k l = (l.k ≤ 24) × (l.n ≡ firsts (solved_at l.refusal l.t) l.k ++ drop l.k l.initial.n)
+
+abbrev pub decreases-loop-k : goal.decreases-loop-k
+decreases-loop-k l = 24 - l.k

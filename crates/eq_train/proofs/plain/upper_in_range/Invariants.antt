@@ -1,0 +1,16 @@
+use mathlib.Core.Path.{◌≡◌, refl, sym, ◌∙◌}
+use mathlib.Core.Bool.{◌&&◌}
+use Prim.Native.Nat.{◌*◌, ◌-◌, ◌≤◌}
+use native.Mathlib.Omega.{arith}
+use borrow.Author.Rules.{rules}
+use Rattle.sums.specs.Sums.{upper_at}
+use Rattle.eq_train.specs.Ranges.{upper_in_range}
+use Rattle.eq_train.proofs.Places.{first-place, row_in, row_after}
+use Rattle.eq_train.proofs.Tested.{upper_next, upper_end}
+use Rattle.eq_train.proofs.plain.upper_in_range.Given as goal
+
+abbrev pub invariant-loop-r : goal.invariant-loop-r
+invariant-loop-r l = (l.r ≤ 11) × (l.at ≡ 2 * upper_at l.r l.r) × ((l.all && upper_in_range l.n l.s l.r (11 - l.r)) ≡ upper_in_range l.n l.s 0 11)
+
+abbrev pub decreases-loop-r : goal.decreases-loop-r
+decreases-loop-r l = 11 - l.r

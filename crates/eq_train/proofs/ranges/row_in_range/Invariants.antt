@@ -1,0 +1,20 @@
+use mathlib.Core.Path.{◌≡◌, sym, ◌∙◌}
+use mathlib.Core.Bool.{◌&&◌}
+use Prim.Native.Nat.{ℕ, ◌+◌, ◌*◌, ◌-◌, ◌≤◌, ◌<◌}
+use native.Mathlib.Omega.{arith}
+use native.Mathlib.Numerals.{add-one}
+use borrow.Author.Rules.{rules}
+use mir.Syntax.{w64}
+use Rattle.laws.proofs.Size.{back}
+use Rattle.sums.specs.Sums.{upper_at}
+use Rattle.eq_train.specs.Train.{nth}
+use Rattle.eq_train.specs.Ranges.{row_in_range}
+use Rattle.eq_train.proofs.Places.{next_column}
+use Rattle.eq_train.proofs.Tested.{diagonal_entry, product_entry, row_one, row_next, row_end}
+use Rattle.eq_train.proofs.ranges.row_in_range.Given as goal
+
+abbrev pub invariant-loop-c : goal.invariant-loop-c
+invariant-loop-c l = (l.r < l.c) × (l.c ≤ 11) × (l.k ≡ 2 * upper_at l.r l.c) × (l.k + 2 * (11 - l.c) ≤ 132) × ((l.all && row_in_range l.n l.s l.r l.c (11 - l.c)) ≡ row_in_range l.n l.s l.r l.r (11 - l.r))
+
+abbrev pub decreases-loop-c : goal.decreases-loop-c
+decreases-loop-c l = 11 - l.c

@@ -1,0 +1,13 @@
+-- `frame::restart` meets its contract. Assumes nothing.
+use borrow.Author.Rules.{rules}
+use Rattle.laws.specs.Choice.{cases}
+use Rattle.frame.specs.Answers.{restart_answer}
+use Rattle.frame.proofs.restart.Goals as goal
+
+pub returns-then-in_range : goal.returns-then-in_range
+unfolding restart_answer
+returns-then-in_range c = rw (c.restarted.ensures, ← c.in_range.ensures) (search cases)
+
+pub returns-else-in_range : goal.returns-else-in_range
+unfolding restart_answer
+returns-else-in_range c = rw (← c.in_range.ensures) (search cases)

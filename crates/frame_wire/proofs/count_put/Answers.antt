@@ -1,0 +1,8 @@
+-- `frame_wire::count_put` meets its contract. Assumes nothing.
+use borrow.Author.Rules.{rules}
+use Rattle.frame_wire.specs.Line.{count_put}
+use Rattle.frame_wire.proofs.count_put.Goals as goal
+
+pub returns : goal.returns
+unfolding count_put
+returns c = rw c.low32-count.ensures

@@ -1,0 +1,7 @@
+-- `fx::sizes::wide` meets its contract. Assumes nothing.
+use Rattle.std.proofs.Common.{◌^◌, ltb, ap, to_z-of_z, rules}
+use Rattle.laws.proofs.Size.{fits, at}
+use Rattle.fx.proofs.sizes.wide.Goals as goal
+
+pub returns : goal.returns
+returns c = ap (ltb (2 ^ 60)) (rw (to_z-of_z c.ranges.v) at c.size.ensures)

@@ -1,0 +1,12 @@
+use Rattle.std.proofs.Common.{◌≡◌, ℕ, suc, ◌+◌, ◌-◌, ◌≤◌, Bool, sym, refl, ◌∙◌, add-one, arith, to_z-of_z, w64, to_z, of_z}
+use Rattle.fx.specs.Scale.{least_shift, under_at}
+use Rattle.laws.proofs.First.{first_here, first-none, first_next}
+use Rattle.laws.proofs.Size.{fits, at}
+use Rattle.laws.specs.Ranges.{first_from}
+use Rattle.fx.proofs.turns.least_shift.Given as goal
+
+abbrev pub invariant-loop-s : goal.invariant-loop-s
+invariant-loop-s l = (l.s ≤ 39) × (first_from (under_at l.re l.im) (39 - l.s) l.s ≡ first_from (under_at l.re l.im) 39 0)
+
+abbrev pub decreases-loop-s : goal.decreases-loop-s
+decreases-loop-s l = 39 - l.s

@@ -1,0 +1,20 @@
+use mathlib.Core.Bool.{false}
+use mathlib.Core.List.{◌++◌, append-nil}
+use mathlib.Core.Path.{◌≡◌, refl, sym, ◌∙◌}
+use Prim.Native.Nat.{ℕ, ◌+◌, ◌-◌, ◌≤◌}
+use native.Mathlib.Omega.{arith}
+use borrow.Author.Rules.{rules}
+use lib.ListN.{length, drop, replicate}
+use Rattle.laws.proofs.Lists.{firsts-step}
+use Rattle.laws.specs.Ranges.{firsts}
+use Rattle.learn.specs.Learning.{set_learned}
+use Rattle.in_force.specs.InForce.{set_flags, slices_learned}
+use Rattle.in_force.proofs.Laws.{slices_none, slices_step}
+use Rattle.in_force.proofs.ranged.all_pointed.Given as goal
+
+abbrev pub invariant-loop-i : goal.invariant-loop-i
+invariant-loop-i l = (l.i ≤ 5) × (l.flags ≡ firsts (λ (b : ℕ). set_learned l.l (b + 1)) l.i ++ drop l.i (replicate 5 false)) × (l.learned ≡ slices_learned l.l l.i l.initial.learned)
+    × (length l.learned ≡ 124)
+
+abbrev pub decreases-loop-i : goal.decreases-loop-i
+decreases-loop-i l = 5 - l.i

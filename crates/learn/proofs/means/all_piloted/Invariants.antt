@@ -1,0 +1,14 @@
+use mathlib.Core.Path.{◌≡◌, sym}
+use Prim.Native.Nat.{ℕ, ◌+◌, ◌-◌, ◌≤◌}
+use native.Mathlib.Omega.{arith}
+use borrow.Author.Rules.{rules}
+use lib.Dec.{ltb}
+use Rattle.learn.specs.Learning.{all_below, count_at, all_piloted}
+use Rattle.learn.proofs.Laws.{all_none, all_step}
+use Rattle.learn.proofs.means.all_piloted.Given as goal
+
+abbrev pub invariant-loop-i : goal.invariant-loop-i
+invariant-loop-i l = (l.i ≤ l.n) × (l.all ≡ all_below (λ (j : ℕ). ltb 0 (count_at l.count (l.a + j))) l.i)
+
+abbrev pub decreases-loop-i : goal.decreases-loop-i
+decreases-loop-i l = l.n - l.i

@@ -1,0 +1,20 @@
+-- `learn::ranges::counts_in_range` meets its contract. Assumes nothing.
+use mathlib.Core.Path.{◌≡◌, sym}
+use Prim.Native.Nat.{ℕ, ◌-◌, ◌≤◌}
+use native.Mathlib.Omega.{arith}
+use borrow.Author.Rules.{rules}
+use lib.Dec.{leb}
+use Rattle.learn.specs.Learning.{all_below, count_at}
+use Rattle.learn.specs.Ranges.{counts_in_range}
+use Rattle.learn.proofs.Laws.{all_none, all_step}
+use Rattle.learn.proofs.ranges.counts_in_range.Goals as goal
+
+pub loop-i-init : goal.loop-i-init
+loop-i-init c = (omega arith, all_none _)
+
+pub loop-i-preserved : goal.loop-i-preserved
+loop-i-preserved c = let L = c.loop-i in (omega arith, rw L.invariant.1 (sym (all_step _ L.i)))
+
+pub returns : goal.returns
+unfolding counts_in_range
+returns c = let e : c.loop-i.i ≡ 62 = omega arith in rw e at c.loop-i.invariant.1

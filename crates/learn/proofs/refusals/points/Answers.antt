@@ -1,0 +1,17 @@
+-- `learn::refusals::points` meets its contract. Assumes nothing.
+use borrow.Author.Rules.{rules}
+use Rattle.laws.specs.Choice.{cases}
+use Rattle.learn.specs.Answers.{points_refusal}
+use Rattle.learn.proofs.refusals.points.Goals as goal
+
+pub returns-then-len-bits : goal.returns-then-len-bits
+unfolding points_refusal
+returns-then-len-bits c = search cases
+
+pub returns-then-in_range : goal.returns-then-in_range
+unfolding points_refusal
+returns-then-in_range c = rw (← c.in_range.ensures) (search cases)
+
+pub returns-else-in_range : goal.returns-else-in_range
+unfolding points_refusal
+returns-else-in_range c = rw (← c.in_range.ensures) (search cases)

@@ -1,0 +1,9 @@
+-- `lines::ended` meets its contract. Assumes nothing.
+use borrow.Author.Rules.{rules}
+use Rattle.lines.specs.Lines.{end_line}
+use Rattle.lines.proofs.Laws.{then}
+use Rattle.lines.proofs.ended.Goals as goal
+
+pub returns : goal.returns
+unfolding end_line
+returns c = then c.text-a.ensures c.number_then.ensures.0

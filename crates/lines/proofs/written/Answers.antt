@@ -1,0 +1,9 @@
+-- `lines::written` meets its contract. Assumes nothing.
+use borrow.Author.Rules.{rules}
+use Rattle.lines.specs.Lines.{soft_line}
+use Rattle.lines.proofs.Laws.{then}
+use Rattle.lines.proofs.written.Goals as goal
+
+pub returns : goal.returns
+unfolding soft_line
+returns c = then (then (then c.text-a.ensures c.number_then-b.ensures.0) c.number-c.ensures.0) c.values.ensures

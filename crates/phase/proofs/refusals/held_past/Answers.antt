@@ -1,0 +1,14 @@
+-- `phase::refusals::held_past` meets its contract. Assumes nothing.
+use mathlib.Core.Path.{◌∙◌}
+use borrow.Author.Rules.{rules}
+use Rattle.laws.specs.Choice.{cases}
+use Rattle.phase.specs.Answers.{held_past}
+use Rattle.phase.proofs.refusals.held_past.Goals as goal
+
+pub returns-then-c-lt9296 : goal.returns-then-c-lt9296
+unfolding held_past
+returns-then-c-lt9296 c = c.past.ensures ∙ search cases
+
+pub returns-else-c-lt9296 : goal.returns-else-c-lt9296
+unfolding held_past
+returns-else-c-lt9296 c = search cases

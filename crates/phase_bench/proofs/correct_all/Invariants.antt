@@ -1,0 +1,20 @@
+use mathlib.Core.Path.{◌≡◌, refl, ◌∙◌}
+use Prim.Native.Nat.{◌<◌, ◌^◌, ◌+◌, ◌-◌, ◌*◌, ◌≤◌}
+use native.Mathlib.Omega.{arith}
+use borrow.Author.Rules.{rules}
+use lib.ListN.{length, set, length-set}
+use lib.Signed.{mag}
+use mir.Syntax.{w16, w64}
+use Rattle.laws.proofs.Size.{back}
+use Rattle.phase_bench.proofs.Laws.{correct_more}
+use Rattle.phase_bench.specs.Slots.{places, corrected_all}
+use Rattle.phase_bench.proofs.correct_all.Reads as reads
+use Rattle.phase_bench.proofs.correct_all.Lts as lts
+use Rattle.phase.proofs.ranged.corrected.Reads as corrected-reads
+use Rattle.phase_bench.proofs.correct_all.Given as goal
+
+abbrev pub invariant-loop-j : goal.invariant-loop-j
+invariant-loop-j l = (l.j ≤ 9296) × (places l.y l.phi l.gain ≡ corrected_all l.w l.table l.store l.j (places l.initial.y l.initial.phi l.initial.gain)) × (length l.y ≡ 18592) × (length l.phi ≡ 9296) × (length l.gain ≡ 9296)
+
+abbrev pub decreases-loop-j : goal.decreases-loop-j
+decreases-loop-j l = 9296 - l.j

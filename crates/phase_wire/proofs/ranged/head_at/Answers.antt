@@ -1,0 +1,9 @@
+-- `phase_wire::ranged::head_at` meets its contract. Assumes nothing.
+use Rattle.phase_wire.specs.Given.{head_of}
+use mir.Facts.{to_z-of_z}
+use borrow.Author.Rules.{rules}
+use Rattle.phase_wire.proofs.ranged.head_at.Goals as goal
+
+pub returns : goal.returns
+unfolding head_of
+returns c = rw (to_z-of_z (record { sfits = c.of_bits.type_inv }), c.low32-2.ensures, c.of_bits.ensures, c.low32.ensures, c.corr_at-c.ensures, c.slot_at-s.ensures, c.word_of-w.ensures)

@@ -1,0 +1,65 @@
+-- The loop has made j calls. Assumes nothing.
+use Prim.Native.Nat.{ℕ, ◌+◌, ◌-◌, ◌*◌, ◌≤◌}
+use mathlib.Core.Path.{◌≡◌, refl, sym, ap, ◌∙◌}
+use native.Mathlib.Omega.{arith}
+use mir.Facts.{to_z-of_z}
+use lib.ListN.{length}
+use lib.IntN.{ℤ, pos}
+use Rattle.receiver.specs.Answers.{new_acc, new_answer, points_answer}
+use Rattle.receiver.specs.Feed.{Block}
+use Rattle.receiver_bench.specs.Streams.{Flow, feed_many, flow, lent_of, new_flow, received}
+use Rattle.receiver_bench.proofs.Laws.{feed_more, new_flow_lem}
+use borrow.Author.Rules.{rules}
+use Rattle.receiver_bench.proofs.measure_receive.Goals as goal
+
+pub loop-j-init : goal.loop-j-init
+unfolding feed_many
+loop-j-init c = (omega arith, omega arith, refl, refl, refl, refl)
+
+pub turn-x-requires : goal.turn-x-requires
+turn-x-requires c = c.loop-j.invariant.1
+
+pub overflow_add-taken : goal.overflow_add-taken
+overflow_add-taken c = omega (arith, c.turn-x.ensures.2, c.well_formed.0.0)
+
+pub overflow_add-j : goal.overflow_add-j
+overflow_add-j c = omega (arith, c.loop-j-test.true, c.ranges)
+
+pub loop-j-smaller : goal.loop-j-smaller
+loop-j-smaller c = omega (arith, c.loop-j-test.true)
+
+pub loop-j-preserved : goal.loop-j-preserved
+loop-j-preserved c =
+    let h = c.loop-j in
+    let g = c.turn-x in
+    let a = c.args in
+    let b : Block = record { bytes = a.bytes.now; f = a.words.f; s = a.words.s; table = a.table.now } in (
+      omega (arith, c.loop-j-test.true),
+      g.ensures.2,
+      feed_more b h.j _ (flow h.r h.taken h.refusal (lent_of h.acc h.store h.soft)) g.result _ h.invariant.2 g.ensures.0 g.ensures.1,
+      g.auto.1.1.1.1.1.0 ∙ h.invariant.3,
+      g.auto.1.1.1.1.1.1.0 ∙ h.invariant.4,
+      g.auto.1.1.1.1.1.1.1.0 ∙ h.invariant.5,
+    )
+
+pub shape_of-acc : goal.shape_of-acc
+shape_of-acc c = c.loop-j.invariant.3 ∙ c.new-a.auto.1.1.0
+
+pub shape_of-store : goal.shape_of-store
+shape_of-store c = c.loop-j.invariant.4
+
+pub shape_of-soft : goal.shape_of-soft
+shape_of-soft c = c.loop-j.invariant.5
+
+pub returns : goal.returns
+returns c =
+    let h = c.loop-j in
+    let a = c.args in
+    let n = c.new-a in
+    let p = c.load_points-b in
+    let b : Block = record { bytes = a.bytes.now; f = a.words.f; s = a.words.s; table = a.table.now } in
+    let w : Flow = new_flow a.bits a.points.now a.k (lent_of a.acc.now a.store.now a.soft.now) in
+    let e : h.j ≡ a.calls = omega (arith, h.invariant.0, c.loop-j-test) in
+    let z = new_flow_lem a.bits a.points.now a.k a.acc.now _ a.store.now a.soft.now n.result p.result n.ensures.0 n.ensures.1 (rw (to_z-of_z c.ranges.k) at p.ensures) in
+    let q = h.invariant.2 ∙ ap (λ (x : Flow). feed_many b h.j x) z ∙ ap (λ (v : ℕ). feed_many b v w) e in
+    (ap received q, ap (λ (x : Flow). x.lent) q)

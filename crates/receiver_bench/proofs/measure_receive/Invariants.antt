@@ -1,0 +1,19 @@
+use Prim.Native.Nat.{ℕ, ◌+◌, ◌-◌, ◌*◌, ◌≤◌}
+use mathlib.Core.Path.{◌≡◌, refl, sym, ap, ◌∙◌}
+use native.Mathlib.Omega.{arith}
+use mir.Facts.{to_z-of_z}
+use lib.ListN.{length}
+use lib.IntN.{ℤ, pos}
+use Rattle.receiver.specs.Answers.{new_acc, new_answer, points_answer}
+use Rattle.receiver.specs.Feed.{Block}
+use Rattle.receiver_bench.specs.Streams.{Flow, feed_many, flow, lent_of, new_flow, received}
+use Rattle.receiver_bench.proofs.Laws.{feed_more, new_flow_lem}
+use borrow.Author.Rules.{rules}
+use Rattle.receiver_bench.proofs.measure_receive.Given as goal
+
+abbrev pub invariant-loop-j : goal.invariant-loop-j
+invariant-loop-j l = (l.j ≤ l.calls) × (2 * l.taken ≤ length l.bytes) × (flow l.r l.taken l.refusal (lent_of l.acc l.store l.soft) ≡ feed_many (record { l.bytes = l.bytes; f = l.words.f; s = l.words.s; l.table = l.table }) l.j (flow l.initial.r l.initial.taken l.initial.refusal (lent_of l.initial.acc l.initial.store l.initial.soft)))
+    × (length l.acc ≡ length l.initial.acc) × (length l.store ≡ length l.initial.store) × (length l.soft ≡ length l.initial.soft)
+
+abbrev pub decreases-loop-j : goal.decreases-loop-j
+decreases-loop-j l = l.calls - l.j

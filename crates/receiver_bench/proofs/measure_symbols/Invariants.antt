@@ -1,0 +1,19 @@
+use Prim.Native.Nat.{ℕ, ◌+◌, ◌-◌, ◌*◌, ◌/◌, ◌≤◌}
+use mathlib.Core.Path.{◌≡◌, refl, sym, ap, ◌∙◌}
+use native.Mathlib.Omega.{arith}
+use lib.ListN.{length}
+use lib.IntN.{ℤ, pos}
+use mir.Facts.{to_z-of_z}
+use Rattle.receiver.specs.Answers.{new_acc, new_answer, points_answer}
+use Rattle.receiver.specs.Feed.{Block}
+use Rattle.receiver_bench.specs.Streams.{Flow, flow, lent_of, new_flow, received, symbol_many}
+use Rattle.receiver_bench.proofs.Laws.{symbol_more, new_flow_lem}
+use borrow.Author.Rules.{rules}
+use Rattle.receiver_bench.proofs.measure_symbols.Given as goal
+
+abbrev pub invariant-loop-i : goal.invariant-loop-i
+invariant-loop-i l = (l.i ≤ l.initial.refusal) × (flow l.r l.i l.refusal (lent_of l.acc l.store l.soft) ≡ symbol_many (record { l.bytes = l.bytes; l.initial.acc = l.initial.acc; l.initial.store = l.initial.store; l.table = l.table }) l.i (flow l.initial.soft 0 l.initial.r (lent_of l.f l.s l.m)))
+    × (length l.acc ≡ length l.f) × (length l.store ≡ length l.s) × (length l.soft ≡ length l.m)
+
+abbrev pub decreases-loop-i : goal.decreases-loop-i
+decreases-loop-i l = l.initial.refusal - l.i

@@ -1,0 +1,19 @@
+-- `receiver_bounds::plain::eq_within` meets its contract. Assumes nothing.
+use Rattle.receiver_bounds.specs.Bounds.{eq_within, sums_within}
+use Rattle.eq_train.proofs.Tested.{and_true}
+use Rattle.laws.specs.Choice.{cases, if_no}
+use borrow.Author.Rules.{rules}
+use lib.Dec.{eqb}
+use mathlib.Core.Bool.{◌||◌, true}
+use mathlib.Core.Path.{sym}
+use Rattle.receiver_bounds.proofs.plain.eq_within.Goals as goal
+
+pub returns-then-opened : goal.returns-then-opened
+unfolding eq_within
+returns-then-opened c = rw c.sums_within.ensures (search cases)
+
+pub returns-else-opened : goal.returns-else-opened
+unfolding eq_within
+returns-else-opened c =
+    let e = c.args.e in
+    rw (if_no e.opened (sums_within e.sums) true c.if-opened.false) (sym (and_true (eqb e.filled 0 || eqb e.filled 11)))

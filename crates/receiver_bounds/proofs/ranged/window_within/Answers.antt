@@ -1,0 +1,35 @@
+-- `receiver_bounds::ranged::window_within` meets its contract. Assumes nothing.
+use Rattle.receiver_bounds.proofs.Laws.{all_end, all_next}
+use Prim.Native.Nat.{◌-◌, ◌≤◌}
+use Rattle.receiver_bounds.specs.Bounds.{all_within}
+use Rattle.laws.proofs.Size.{back, within_abs}
+use borrow.Author.Rules.{rules}
+use lib.Dec.{leb}
+use lib.IntN.{nat_abs, negsuc, pos}
+use lib.ListN.{drop, get_or, length}
+use lib.Signed.{le_z}
+use mathlib.Core.Bool.{◌&&◌}
+use mathlib.Core.Path.{◌∙◌, ◌≡◌, refl, sym}
+use mir.Syntax.{w16}
+use mir.Val.{of_z, to_z}
+use native.Mathlib.Omega.{arith}
+use Rattle.receiver_bounds.proofs.ranged.window_within.Goals as goal
+
+pub loop-k-init : goal.loop-k-init
+loop-k-init c = (omega arith, refl)
+
+pub loop-k-preserved : goal.loop-k-preserved
+loop-k-preserved c =
+    let l = c.args.win.now in
+    let k = c.loop-k.k in
+    let x = get_or l k (pos 0) in
+    let long : length l ≡ 48 = c.requires in
+    let u = to_z w16 (of_z w16 x) in
+    let t : (le_z (negsuc 4095) u && le_z u (pos 4096)) ≡ leb (nat_abs x) 4096 = rw (back w16 x c.v-1.given) (within_abs x 4095) in
+    (omega (arith, c.loop-k-test.true), all_next 4096 l k c.loop-k.all _ (omega (arith, c.loop-k-test.true, long)) t ∙ c.loop-k.invariant.1)
+
+pub returns : goal.returns
+returns c =
+    let l = c.args.win.now in
+    let e : c.loop-k.k ≡ length l = omega (arith, c.loop-k.invariant.0, c.loop-k-test, c.requires) in
+    sym (all_end 4096 l c.loop-k.all) ∙ rw e at c.loop-k.invariant.1

@@ -1,0 +1,8 @@
+-- `receiver_calls::calls::taps` meets its contract. Assumes nothing.
+use Rattle.receiver_calls.specs.Calls.{taps_call}
+use borrow.Author.Rules.{rules}
+use Rattle.receiver_calls.proofs.calls.taps.Goals as goal
+
+pub returns : goal.returns
+unfolding taps_call
+returns c = rw (c.answered.ensures, c.load_taps.ensures, c.low32.ensures, c.sixteens-t.ensures)

@@ -1,0 +1,17 @@
+use Prim.Native.Nat.{◌-◌, ◌≤◌}
+use Rattle.laws.proofs.Lists.{firsts-step}
+use Rattle.laws.specs.Ranges.{firsts}
+use Rattle.receiver_calls.specs.Given.{point_at, points_of}
+use borrow.Author.Rules.{rules}
+use lib.ListN.{drop, drop_of_length-le}
+use mathlib.Core.List.{[], ◌++◌, append-nil}
+use mathlib.Core.Path.{◌∙◌, ◌≡◌, refl}
+use mir.Facts.{to_z-of_z}
+use native.Mathlib.Omega.{arith}
+use Rattle.receiver_calls.proofs.given.points.Given as goal
+
+abbrev pub invariant-loop-k : goal.invariant-loop-k
+invariant-loop-k l = (l.k ≤ 80) × (l.t ≡ firsts (point_at l.bytes) l.k ++ drop l.k l.initial.t)
+
+abbrev pub decreases-loop-k : goal.decreases-loop-k
+decreases-loop-k l = 80 - l.k

@@ -1,0 +1,23 @@
+-- `receiver_feed::ready::calm` meets its contract. Assumes nothing.
+use Rattle.laws.specs.Choice.{cases}
+use Rattle.receiver.specs.Symbol.{next_of}
+use Rattle.receiver_feed.specs.Turns.{calm_of}
+use Rattle.receiver_feed.proofs.Calm.{run_in}
+use Rattle.sync_step.proofs.Laws.{run_ready}
+use Rattle.receiver_bounds.proofs.Ready.{run-wide}
+use mathlib.Core.Path.{sym, ◌∙◌}
+use borrow.Author.Rules.{rules}
+use Rattle.receiver_feed.proofs.ready.calm.Goals as goal
+
+pub reach-requires : goal.reach-requires
+reach-requires c =
+    let r = c.args.r in
+    run_ready r.front.sync.run (run-wide r.front.sync.run (run_in r c.pre)) (sym c.past_end.ensures ∙ c.if-past_end.left)
+
+pub returns-then-past_end : goal.returns-then-past_end
+unfolding calm_of next_of
+returns-then-past_end c = rw (c.pre, ← c.past_end.ensures) (search cases)
+
+pub returns-else-past_end : goal.returns-else-past_end
+unfolding calm_of next_of
+returns-else-past_end c = rw (c.smaller.ensures, c.reach.ensures.0, c.pre, ← c.past_end.ensures) (search cases)

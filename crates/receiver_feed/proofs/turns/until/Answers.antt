@@ -1,0 +1,10 @@
+-- `receiver_feed::turns::until` meets its contract. Assumes nothing.
+use Rattle.laws.specs.Choice.{cases}
+use borrow.Author.Rules.{rules}
+use Rattle.receiver_feed.proofs.turns.until.Goals as goal
+
+pub returns-then-d : goal.returns-then-d
+returns-then-d c = search cases
+
+pub returns-else-d : goal.returns-else-d
+returns-else-d c = search cases

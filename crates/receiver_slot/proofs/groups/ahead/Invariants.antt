@@ -1,0 +1,18 @@
+use Prim.Native.Nat.{◌-◌, ◌*◌, ◌<◌, ◌≤◌}
+use borrow.Author.Rules.{rules}
+use lib.ListN.{drop, length, length-set, set, take}
+use lib.Signed.{mag}
+use mathlib.Core.List.{◌++◌}
+use mathlib.Core.Path.{◌≡◌, ◌∙◌}
+use mir.Syntax.{w16}
+use native.Mathlib.Omega.{arith}
+use Rattle.laws.proofs.Size.{back}
+use Rattle.receiver_slot.specs.Steps.{ahead_on}
+use Rattle.receiver_slot.proofs.Ahead.{ahead-start, ahead-turn}
+use Rattle.receiver_slot.proofs.groups.ahead.Given as goal
+
+abbrev pub invariant-loop-t : goal.invariant-loop-t
+invariant-loop-t l = (l.t ≤ l.table) × (l.l ≡ take (280 - 2 * l.t) l.w ++ ahead_on l.n l.t (drop 280 l.w) l.k l.store l.initial.l) × (length l.l ≡ 304)
+
+abbrev pub decreases-loop-t : goal.decreases-loop-t
+decreases-loop-t l = l.table - l.t

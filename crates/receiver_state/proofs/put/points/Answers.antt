@@ -1,0 +1,8 @@
+-- `receiver_state::put::points` meets its contract. Assumes nothing.
+use borrow.Author.Rules.{rules}
+use Rattle.receiver_state.specs.Put.{points_put}
+use Rattle.receiver_state.proofs.put.points.Goals as goal
+
+pub returns : goal.returns
+unfolding points_put
+returns c = rw (c.points.ensures, c.low32.ensures, c.low8.ensures, c.points_at-t.ensures, c.packed-bytes.ensures)

@@ -1,0 +1,8 @@
+-- `receiver_state::put::run` meets its contract. Assumes nothing.
+use borrow.Author.Rules.{rules}
+use Rattle.receiver_state.specs.Put.{run_put_in}
+use Rattle.receiver_state.proofs.put.run.Goals as goal
+
+pub returns : goal.returns
+unfolding run_put_in
+returns c = rw (c.sync.ensures, c.run_put-n.ensures)

@@ -1,0 +1,8 @@
+-- `receiver_symbol::after::taken` meets its contract. Assumes nothing.
+use Rattle.receiver_symbol.specs.Parts.{taken_by}
+use borrow.Author.Rules.{rules}
+use Rattle.receiver_symbol.proofs.after.taken.Goals as goal
+
+pub returns : goal.returns
+unfolding taken_by
+returns c = (rw c.after-n.ensures.0, c.store.ensures, c.after-n.ensures.1)

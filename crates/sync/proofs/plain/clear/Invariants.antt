@@ -1,0 +1,15 @@
+use Prim.Native.Nat.{◌-◌, ◌≤◌}
+use borrow.Author.Fill.{fill_more, fill_none}
+use borrow.Author.Rules.{rules}
+use lib.ListN.{drop, length, length-set, replicate}
+use lib.Seq.{drop-length}
+use mathlib.Core.List.{◌++◌, append-nil}
+use mathlib.Core.Path.{◌∙◌, ◌≡◌, refl}
+use native.Mathlib.Omega.{arith}
+use Rattle.sync.proofs.plain.clear.Given as goal
+
+abbrev pub invariant-loop-i : goal.invariant-loop-i
+invariant-loop-i l = (l.i ≤ length l.initial.acc) × (length l.acc ≡ length l.initial.acc) × (l.acc ≡ replicate l.i 0 ++ drop l.i l.initial.acc)
+
+abbrev pub decreases-loop-i : goal.decreases-loop-i
+decreases-loop-i l = length l.initial.acc - l.i

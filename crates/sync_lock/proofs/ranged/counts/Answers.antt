@@ -1,0 +1,8 @@
+use Rattle.laws.specs.Choice.{cases}
+use Rattle.sync_lock.specs.Period.{counts_of}
+use borrow.Author.Rules.{rules}
+use Rattle.sync_lock.proofs.ranged.counts.Goals as goal
+
+pub returns : goal.returns
+unfolding counts_of
+returns c = search cases

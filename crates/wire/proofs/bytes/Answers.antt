@@ -1,0 +1,9 @@
+-- `wire::bytes` meets its contract. Assumes nothing.
+use native.Mathlib.Nat.{div-one}
+use Rattle.wire.specs.Wire.{byte_of, bytes_of}
+use borrow.Author.Rules.{rules}
+use Rattle.wire.proofs.bytes.Goals as goal
+
+pub returns : goal.returns
+unfolding bytes_of byte_of
+returns c = rw (div-one c.args.u)

@@ -1,0 +1,16 @@
+use mathlib.Core.Path.{◌≡◌, refl, ◌∙◌}
+use mathlib.Core.List.{[], ◌++◌, append-nil}
+use Prim.Native.Nat.{◌-◌, ◌≤◌}
+use native.Mathlib.Omega.{arith}
+use lib.ListN.{drop, drop_of_length-le}
+use Rattle.laws.proofs.Lists.{firsts-step}
+use Rattle.laws.specs.Ranges.{firsts}
+use Rattle.wire.specs.Wire.{number_at, numbers_of}
+use borrow.Author.Rules.{rules}
+use Rattle.wire.proofs.ranged.numbers.Given as goal
+
+abbrev pub invariant-loop-k : goal.invariant-loop-k
+invariant-loop-k l = (l.k ≤ 24) × (l.n ≡ firsts (number_at l.s) l.k ++ drop l.k l.initial.n)
+
+abbrev pub decreases-loop-k : goal.decreases-loop-k
+decreases-loop-k l = 24 - l.k
