@@ -109,7 +109,7 @@ unfolding demap_buffer soft_bits
 demap_theorem yi yq points bits k out e j h =
     let f = label_metric yi yq points in
     let a = accepted bits (length points) k (length out) e in
-    let z : pos 0 ≤ℤ k = le_ud (pos 0) k (test_le k (pos 0) a.not-below) in
+    let z : pos 0 ≤ℤ k = le_ud (pos 0) k (test_le k (pos 0) a.not_below) in
     let n = eq-eqb (demap_refusal bits (length points) k (length out)) 0 e in
     rw (if_yes _ (soft_bits f bits k ++ drop bits out) out n, getD-firsts (soft_at f bits k) (pos 0) bits (drop bits out) j h)
     (bits_theorem yi yq points bits k z j h)
@@ -122,7 +122,7 @@ unfolding block_buffer symbol_metric
 block_theorem sy points bits k out e s j h q =
     let n = length sy / 2 in
     let a = block_accepted n bits (length points) k (length out) e in
-    let z : pos 0 ≤ℤ k = le_ud (pos 0) k (test_le k (pos 0) a.1.not-below) in
+    let z : pos 0 ≤ℤ k = le_ud (pos 0) k (test_le k (pos 0) a.1.not_below) in
     rw (
       if_yes _ (block_bits sy points bits k n ++ drop (n * bits) out) out (eq-eqb (block_refusal n bits (length points) k (length out)) 0 e),
       block_at sy points bits k n (drop (n * bits) out) s j h q,

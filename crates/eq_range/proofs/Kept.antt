@@ -61,7 +61,7 @@ started_coherent taps from =
       short = λ k h. rw (get_or-replicate {A = ℤ} 22 k (pos 0) (pos 0) h) zero_fits;
       rest = λ k h b. get_or-replicate {A = ℤ} 22 k (pos 0) (pos 0) b;
       open_sums = λ o. absurd (never (sym o));
-      no-sums = λ o. refl;
+      no_sums = λ o. refl;
     }
 
 pub pushed_coherent : (e : Equaliser) (i q : ℤ) → Coherent e → SFits w16 i → SFits w16 q → Coherent (pushed_eq e i q)
@@ -72,28 +72,28 @@ pushed_coherent e i q c fi fq =
       pairs = line_pairs e.line i q c.pairs;
       short = line_short e.line i q fi fq c.short;
       rest = line_rest e.line i q e.filled c.rest;
-      open_sums = c.open-sums;
-      no-sums = c.no-sums;
+      open_sums = c.open_sums;
+      no_sums = c.no_sums;
     }
 
 -- open sums that are sound
 pub open_coherent : (e : Equaliser) (s : _) → Coherent e → SumsSound s → Coherent (with_sums e true s)
 unfolding with_sums
-open_coherent e s c h = record { filled = c.filled; pairs = c.pairs; short = c.short; rest = c.rest; open_sums = λ o. h; no-sums = λ o. absurd (never o) }
+open_coherent e s c h = record { filled = c.filled; pairs = c.pairs; short = c.short; rest = c.rest; open_sums = λ o. h; no_sums = λ o. absurd (never o) }
 
 pub closed_coherent : (e : Equaliser) → Coherent e → Coherent (with_sums e false (empty_sums 0))
 unfolding with_sums
-closed_coherent e c = record { filled = c.filled; pairs = c.pairs; short = c.short; rest = c.rest; open_sums = λ o. absurd (never (sym o)); no-sums = λ o. refl }
+closed_coherent e c = record { filled = c.filled; pairs = c.pairs; short = c.short; rest = c.rest; open_sums = λ o. absurd (never (sym o)); no_sums = λ o. refl }
 
 pub loaded_coherent : (e : Equaliser) (taps : List ℤ) (frame : ℕ) → Coherent e → Coherent (loaded_eq e taps frame)
 unfolding loaded_eq
-loaded_coherent e taps frame c = record { filled = c.filled; pairs = c.pairs; short = c.short; rest = c.rest; open_sums = c.open-sums; no-sums = c.no-sums }
+loaded_coherent e taps frame c = record { filled = c.filled; pairs = c.pairs; short = c.short; rest = c.rest; open_sums = c.open_sums; no_sums = c.no_sums }
 
 -- ---- the ranges
 pub coherent_in_range : (e : Equaliser) → Coherent e → eq_in_range e ≡ true
 unfolding eq_in_range
 coherent_in_range e c =
-    let t : (if e.opened then sums_in_range e.sums else true) ≡ true = if_either (λ (b : Bool). b ≡ true) e.opened (sums_in_range e.sums) true (λ o. sound_in_range e.sums (c.open-sums o)) (λ o. refl) in
+    let t : (if e.opened then sums_in_range e.sums else true) ≡ true = if_either (λ (b : Bool). b ≡ true) e.opened (sums_in_range e.sums) true (λ o. sound_in_range e.sums (c.open_sums o)) (λ o. refl) in
     rw (le-leb e.filled 11 c.filled, t)
 
 -- ---- a training
@@ -114,7 +114,7 @@ pub trained_coherent : (e : Equaliser) (di dq : ℤ) → Coherent e → SFits w1
 unfolding trained_eq
 trained_coherent e di dq c fi fq z =
     if_either Coherent (trains_eq e) _ _
-    (λ t. open_coherent e _ c (train_sound e.sums e.line di dq (c.open-sums (trains_open e t)) c.short fi fq (room t)))
+    (λ t. open_coherent e _ c (train_sound e.sums e.line di dq (c.open_sums (trains_open e t)) c.short fi fq (room t)))
     (λ t. c)
   where
     room : trains_eq e ≡ true → e.sums.count < 4194304

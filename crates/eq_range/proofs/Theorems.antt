@@ -85,7 +85,7 @@ train_full e k di dq h =
     by_test (trains_eq e && leb 4194304 e.sums.count)
     (λ t.
     let b = and_both (trains_eq e) (leb 4194304 e.sums.count) t in
-    (b.0, omega (arith, leb-true 4194304 e.sums.count b.1, (k.open-sums (trains_open e b.0)).count)))
+    (b.0, omega (arith, leb-true 4194304 e.sums.count b.1, (k.open_sums (trains_open e b.0)).count)))
     (λ t. absurd (h (ap (λ (x : Kept). x.refusal) (if_yes (eqb (train_refusal e) 0) _ _ (eq-eqb (train_refusal e) 0 (refusal_0 e (coherent_in_range e k) t))))))
 
 -- ---- CALLS: a new equaliser that any calls then leave is coherent and in range, and is not refused with 6

@@ -18,4 +18,4 @@ pub record Coherent (e : Equaliser) : Type 0 where
   pub rest : (k : ℕ) → 2 * e.filled ≤ k → k < 22 → nth e.line k ≡ pos 0
   -- open sums are within the bounds of their count; sums that are not open are those of nothing
   pub open_sums : e.opened ≡ true → SumsSound e.sums
-  pub no-sums : e.opened ≡ false → e.sums ≡ empty_sums 0
+  pub no_sums : e.opened ≡ false → e.sums ≡ empty_sums 0

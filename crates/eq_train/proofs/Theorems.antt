@@ -144,11 +144,11 @@ holds_trainings frame ts =
           let f : Training → ℤ = λ t. (line_product t.line r c).im in
           let u = upper_in r c h l in
           from_none at f frame ts (empty_r frame (2 * upper_at r c + 1) (omega arith)) (sum_all at f (λ s t. trained-im s t.line t.di t.dq r c h l) e ts);
-      right-re = λ r h.
+      right_re = λ r h.
           let at : Sums → ℤ = λ s. nth s.p (2 * r) in
           let f : Training → ℤ = λ t. (right_product t.line t.di t.dq r).re in
           from_none at f frame ts (empty_p frame (2 * r) (omega arith)) (sum_all at f (λ s t. trained-right-re s t.line t.di t.dq r h) e ts);
-      right-im = λ r h.
+      right_im = λ r h.
           let at : Sums → ℤ = λ s. nth s.p (2 * r + 1) in
           let f : Training → ℤ = λ t. (right_product t.line t.di t.dq r).im in
           from_none at f frame ts (empty_p frame (2 * r + 1) (omega arith)) (sum_all at f (λ s t. trained-right-im s t.line t.di t.dq r h) e ts);

@@ -44,5 +44,5 @@ pub record Holds (s : Sums) (ts : List Training) : Type 0 where
   pub count : s.count ≡ length ts
   pub upper_re : (r c : ℕ) → r ≤ c → c < 11 → nth s.r (2 * upper_at r c) ≡ total (λ t. (line_product t.line r c).re) ts
   pub upper_im : (r c : ℕ) → r ≤ c → c < 11 → nth s.r (2 * upper_at r c + 1) ≡ total (λ t. (line_product t.line r c).im) ts
-  pub right-re : (r : ℕ) → r < 11 → nth s.p (2 * r) ≡ total (λ t. (right_product t.line t.di t.dq r).re) ts
-  pub right-im : (r : ℕ) → r < 11 → nth s.p (2 * r + 1) ≡ total (λ t. (right_product t.line t.di t.dq r).im) ts
+  pub right_re : (r : ℕ) → r < 11 → nth s.p (2 * r) ≡ total (λ t. (right_product t.line t.di t.dq r).re) ts
+  pub right_im : (r : ℕ) → r < 11 → nth s.p (2 * r + 1) ≡ total (λ t. (right_product t.line t.di t.dq r).im) ts

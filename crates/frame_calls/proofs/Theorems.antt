@@ -254,13 +254,13 @@ unfolding close_answer with_sums if◌then◌else◌
 close_is e k =
     let r = coherent_in_range e k in
     by_test e.opened (λ o. record { refusal = rw (r, o); eq = rw (r, o); ended = rw (r, o); sums = rw (r, o) })
-    (λ o. record { refusal = rw (r, o); eq = shut o; ended = rw (r, o); sums = rw (r, o) (sym (k.no-sums o)) })
+    (λ o. record { refusal = rw (r, o); eq = shut o; ended = rw (r, o); sums = rw (r, o) (sym (k.no_sums o)) })
   where
     shut : e.opened ≡ false → (close_answer e).eq ≡ with_sums e false (empty_sums 0)
     shut o =
         ap (λ (x : Closed). x.eq) (if_yes (eq_in_range e) _ _ (coherent_in_range e k) ∙ if_no e.opened _ _ o)
         ∙ ap (λ (x : Bool). with_sums e x e.sums) o
-        ∙ ap (λ (x : Sums). with_sums e false x) (k.no-sums o)
+        ∙ ap (λ (x : Sums). with_sums e false x) (k.no_sums o)
 
 -- ---- the field `eq` replaced
 with_coherent : (b : Back) (e : Equaliser) → CoherentBack b → Coherent e → e.filled ≡ b.eq.filled → CoherentBack (with_eq b e)

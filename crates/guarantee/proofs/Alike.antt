@@ -50,9 +50,9 @@ module _ (r : Receiver) (acc : List ℕ) (a b : List ℤ) (g : Agree r.front.pha
 
   symbol-told : (x : Input) (u : Accumulators) (v : SlotStore) (soft : List ℤ) → told_by sa (symbol x u v soft) ≡ told_by sb (symbol x u v soft)
   unfolding told_by lent_to handed_acc handed_store kept_acc
-  symbol-told x own own soft = let w = alike r x acc soft a b g in rw (w.answer, w.acc-is, w.soft-is)
+  symbol-told x own own soft = let w = alike r x acc soft a b g in rw (w.answer, w.acc_is, w.soft_is)
   symbol-told x own (wrong l e) soft = refl
-  symbol-told x (wrong m d) own soft = let w = alike r x m soft a b g in rw (w.answer, w.acc-is, w.soft-is)
+  symbol-told x (wrong m d) own soft = let w = alike r x m soft a b g in rw (w.answer, w.acc_is, w.soft_is)
   symbol-told x (wrong m d) (wrong l e) soft = refl
 
   same-told : (c : Call) → told_by sa c ≡ told_by sb c
@@ -76,7 +76,7 @@ module _ (r : Receiver) (acc : List ℕ) (a b : List ℤ) (g : Agree r.front.pha
   unfolding after_call lent_to handed_acc handed_store kept_acc kept_store
   symbol-same x own own soft =
       let w = alike r x acc soft a b g in
-      record { receivers = ap (λ (k : Answer). k.receiver) w.answer; accs = w.acc-is; stores = w.agree }
+      record { receivers = ap (λ (k : Answer). k.receiver) w.answer; accs = w.acc_is; stores = w.agree }
   symbol-same x own (wrong l e) soft =
       let k = lent acc soft l in
       record { receivers = refl; accs = refl; stores = subst (λ (u : Receiver). Agree u.front.phase a b) (sym (refused-same r x k (no_fit k e))) g }

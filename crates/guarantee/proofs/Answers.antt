@@ -35,17 +35,17 @@ record SumsTold (u : Training) (done : Bool) (sums : Sums) : Type 0 where
   pub ended : done ≡ is_open u
   pub frame : sums.frame ≡ frame_of u
   pub count : sums.count ≡ count_of u
-  pub no-sums : done ≡ false → sums ≡ empty_sums 0
+  pub no_sums : done ≡ false → sums ≡ empty_sums 0
 
 no_sums_told : SumsTold none false (empty_sums 0)
 unfolding is_open frame_of count_of empty_sums
-no_sums_told = record { ended = refl; frame = refl; count = refl; no-sums = λ e. refl }
+no_sums_told = record { ended = refl; frame = refl; count = refl; no_sums = λ e. refl }
 
 module _ (s : System) (h : History) (t : Tied s h) where
   ended_by : (u : Training) → SumsTied u s.receiver.back.eq → SumsTold u (end_answer s.receiver).ended (end_answer s.receiver).sums
   unfolding is_open frame_of count_of if◌then◌else◌
   ended_by none o = rw (end-answer s h t, o) no_sums_told
-  ended_by (since frame m) o = rw (end-answer s h t, o.0) (record { ended = refl; frame = o.2; count = o.1; no-sums = λ e. absurd (never e) })
+  ended_by (since frame m) o = rw (end-answer s h t, o.0) (record { ended = refl; frame = o.2; count = o.1; no_sums = λ e. absurd (never e) })
 
   sums-told : (c : Call) → SumsTold (ended_in h c) (told_by s c).ended (told_by s c).sums
   unfolding told_by plain ended_in
@@ -105,7 +105,7 @@ module _ (s : System) (h : History) (t : Tied s h) where
         ended = u.ended;
         frame = u.frame;
         count = u.count;
-        no-sums = u.no-sums;
+        no_sums = u.no_sums;
         acc = subst (Accumulated (happens h c).pushes) (sym (own-acc s h t c)) (accumulated (after_call s c) (happens h c) k.tied);
         lent = gives-lent s h t c;
       }

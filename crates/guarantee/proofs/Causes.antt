@@ -46,7 +46,7 @@ module _ (base : ℕ) (last : Record) (g : List Push) (m : ℕ) where
       let a = ends_at 9296 base last g (m - 23) in
       let b = eighth_ends 9296 base last g (m - 23) in
       by_test (markers_lose_at 9296 base last g (m - 23))
-      (λ t. inl ((markers_are 9296 base last g (m - 23) (lit≤ tt)).loses-only t))
+      (λ t. inl ((markers_are 9296 base last g (m - 23) (lit≤ tt)).loses_only t))
       (λ t. let w = and_both a b (sym (rw t refl) ∙ e) in by-period n l w.0 w.1)
 
   -- the second missed marker in a row
@@ -55,7 +55,7 @@ module _ (base : ℕ) (last : Record) (g : List Push) (m : ℕ) where
   markers-lose x = rw ((markers_are 9296 base last g (m - 23) (lit≤ tt)).loses x) refl
 
   -- the end of an eighth other period in a row
-  eighth-loses : (p j : ℕ) → Eighth 9296 (size_at g) p j → suc m ≡ end_of 9296 j → loses_at 9296 base last g (m - 23) ≡ true
+  eighth_loses : (p j : ℕ) → Eighth 9296 (size_at g) p j → suc m ≡ end_of 9296 j → loses_at 9296 base last g (m - 23) ≡ true
   unfolding loses_at ends_at end_of
   eighth-loses p j x e =
       let q : (m - 23) / 9296 ≡ j = omega (arith, e) in

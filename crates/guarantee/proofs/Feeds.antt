@@ -168,7 +168,7 @@ module _ (s : System) (x : Input) (soft : List ℤ) where
           refusal = told-one.0 ∙ z;
           events = told-one.1 ∙ no_event a.events parts.0;
           runs = told-one.2 ∙ runs_none;
-          soft-is = told-one.3 ∙ soft-none;
+          soft_is = told-one.3 ∙ soft-none;
         }
 
 -- ---- a refused feed, and its first symbol
@@ -275,7 +275,7 @@ module _ (b : Block) (soft : List ℤ) where
         runs = (rs ∙ sym q.runs) j;
         ended = false;
         sums = empty_sums 0;
-        soft = (so ∙ sym q.soft-is) j;
+        soft = (so ∙ sym q.soft_is) j;
         lent = ac j;
         acc = ac j;
       }

@@ -87,7 +87,7 @@ fed_more b k i r l l' w on =
     let same : a ≡ symbol_answer r x l' = v.answer ∙ ap (symbol_answer r x) e in
     let left = ap (symbol_lent r x) e in
     let q : LentAlike a.receiver m (symbol_lent r x l') =
-    subst (LentAlike a.receiver m) left (record { acc = v.acc-is; soft = v.soft-is; stores = v.agree }) in
+    subst (LentAlike a.receiver m) left (record { acc = v.acc_is; soft = v.soft_is; stores = v.agree }) in
     subst (λ (y : Answer). FedAlike (step_fed b k i r l a m) (step_fed b k i r l' y (symbol_lent r x l'))) same
     (step_alike b k i r l l' a m (symbol_lent r x l') w q (on m (symbol_lent r x l') q))
 

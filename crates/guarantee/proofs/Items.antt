@@ -172,7 +172,7 @@ item_lost s h x rest t f cs c ds e l =
     let a : after_item s x ≡ after_call (after_calls s cs) c = item_after s x ∙ ap (after_calls s) (e ∙ ap (λ (y : List Call). cs ++ (c ∷ y)) k) ∙ calls_append s cs (c ∷ []) ∙ one_more (after_calls s cs) c in
     record {
       last = k;
-      like-new =
+      like_new =
           λ store n.
           ap (λ (y : System). told_items y rest) (a ∙ v.2)
           ∙ items_same _ _ rest (begins-same (next_in (happen_all h cs) + 1) (kept_after (happen_all h cs) c) v.0 store v.1 n);

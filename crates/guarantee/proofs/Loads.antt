@@ -115,7 +115,7 @@ module _ (s : System) (h : History) (t : Tied s h) where
   unfolding with_eq
   same-slots e q =
       let u = t.slots in
-      record { idle = u.idle; held = u.held; empty = λ z. q ∙ u.empty z; full_line = λ z. q ∙ u.full-line z }
+      record { idle = u.idle; held = u.held; empty = λ z. q ∙ u.empty z; full_line = λ z. q ∙ u.full_line z }
 
   eq-answer : (e : Equaliser) → eq_answer r₀ e ≡ record { refusal = 0; receiver = with_eq r₀ e }
   unfolding eq_answer

@@ -98,13 +98,13 @@ lock_of s = s.receiver.front.sync.run.lock
 
 pub record LockIs (ps : List Push) (k : Lock) : Type 0 where
   pub locked : (p : ℕ) → LockBy 9296 (size_at ps) p (length ps) → (is_locked k ≡ true) × (offset_of k ≡ p)
-  pub locked-only : is_locked k ≡ true → LockBy 9296 (size_at ps) (offset_of k) (length ps)
+  pub locked_only : is_locked k ≡ true → LockBy 9296 (size_at ps) (offset_of k) (length ps)
 
 tied_lock : (s : System) (h : History) → Tied s h → LockIs h.pushes (lock_of s)
 tied_lock s h t =
     let n = length h.pushes in
     let w = lock_told 9296 h.base h.last h.pushes n (lit≤ tt) (omega arith) t.kept in
-    subst (LockIs h.pushes) (sym (ap (λ (y : Held). y.sync.run.lock) t.held)) (record { locked = w.locked; locked-only = w.locked-only })
+    subst (LockIs h.pushes) (sym (ap (λ (y : Held). y.sync.run.lock) t.held)) (record { locked = w.locked; locked_only = w.locked_only })
 
 -- ---- a period's end among the events
 head-none : (k : Headed) (q : SyncStats) → IsPeriod q (event_of k) → ⊥
@@ -273,7 +273,7 @@ module _ (s : System) (h : History) (t : Tied s h) where
   pub lock-now-told : (c : Call) → CallFits c → (rest : List Call) → LockTold h s c (told_by s c) rest
   lock-now-told c f rest =
       let k = call_steps s h c t f in
-      record { locked = λ e. (lock-is c f e).locked; locked-only = λ e. (lock-is c f e).locked-only; period = λ e q w. period-by c f e q (subst (Among (IsPeriod q)) k.events w) }
+      record { locked = λ e. (lock-is c f e).locked; locked_only = λ e. (lock-is c f e).locked_only; period = λ e q w. period-by c f e q (subst (Among (IsPeriod q)) k.events w) }
 
   -- ---- the 37,207th symbol of a stretch
   -- the stretch that runs after a call has no more symbols than the call's
@@ -285,7 +285,7 @@ module _ (s : System) (h : History) (t : Tied s h) where
       let g = happens h c in
       let k = tied_lock (after_call s c) g (call_steps s h c t f).tied in
       by_test (is_locked (lock_of (after_call s c)))
-      (λ e. absurd (no_lock_before (size_at g.pushes) (offset_of (lock_of (after_call s c))) (length g.pushes) (omega (arith, l, runs_on c)) (k.locked-only e)))
+      (λ e. absurd (no_lock_before (size_at g.pushes) (offset_of (lock_of (after_call s c))) (length g.pushes) (omega (arith, l, runs_on c)) (k.locked_only e)))
       (λ e. e)
 
   -- the 37,207th itself does not lose, since nothing loses before a lock

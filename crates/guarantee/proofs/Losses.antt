@@ -142,7 +142,7 @@ module _ (s : System) (h : History) (t : Tied s h) where
   lost-begins ends f e = absurd (never (sym e))
   lost-begins (restarts at a) f e = absurd (never (sym e))
 
-  like-new : (c : Call) → CallFits c → (rest : List Call) → loses_by h c ≡ true → (store : List ℤ) → length store ≡ 18592 →
+  like_new : (c : Call) → CallFits c → (rest : List Call) → loses_by h c ≡ true → (store : List ℤ) → length store ≡ 18592 →
       told_all (after_call s c) rest ≡ told_all (begins (next_in h + 1) (kept_after h c) store) rest
   like-new c f rest e store k =
       let w = lost-begins c f e in
@@ -176,5 +176,5 @@ module _ (s : System) (h : History) (t : Tied s h) where
         kinds = causes s h t c;
         markers = markers-lost s h t c;
         eighth = eighth-lost s h t c;
-        like-new = like-new c f rest;
+        like_new = like-new c f rest;
       }

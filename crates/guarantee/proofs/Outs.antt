@@ -77,18 +77,18 @@ module _ (r : Receiver) (x : Input) (l : Lent) (c : CoherentReceiver r) (w : Who
 
   body_run : begins-at → (runs 9296 r x l).body ≡ record { at = next_of r - 23 - 9296; j = 0; count = 9291; bits = r.points.bits }
   unfolding points_for
-  body_run q = run_is _ (outs.body_at ∙ omega (arith, q)) outs.body-j outs.body-count outs.body-begins.bits_are
+  body_run q = run_is _ (outs.body_at ∙ omega (arith, q)) outs.body_j outs.body_count outs.body_begins.bits_are
 
   -- those that waited
   pub first_run : Untouched r.back → (runs 9296 r x l).tail ≡ no_run
-  first_run u = outs.tail_none (outs.tail-count ∙ ap (λ (b : Back). b.metas.count) (no_gap_first r.back w.head.at u) ∙ u.none)
+  first_run u = outs.tail_none (outs.tail_count ∙ ap (λ (b : Back). b.metas.count) (no_gap_first r.back w.head.at u) ∙ u.none)
 
   next-run : begins-at → Adjoins w.head.at r.back → (runs 9296 r x l).tail ≡ record { at = next_of r - 23 - 9296 - 5; j = 9291; count = 5; bits = r.points.bits }
   unfolding points_for
   next-run q u =
-      let n : (runs 9296 r x l).tail.count ≡ 5 = outs.tail-count ∙ ap (λ (b : Back). b.metas.count) (no_gap_next r.back w.head.at u) ∙ u.five in
-      let b = outs.tail-begins (omega (arith, n)) in
-      run_is _ (b.at-is ∙ omega (arith, q, u.first.at-is)) (b.j-is ∙ omega (arith, u.first.j)) n b.bits_are
+      let n : (runs 9296 r x l).tail.count ≡ 5 = outs.tail_count ∙ ap (λ (b : Back). b.metas.count) (no_gap_next r.back w.head.at u) ∙ u.five in
+      let b = outs.tail_begins (omega (arith, n)) in
+      run_is _ (b.at_is ∙ omega (arith, q, u.first.at_is)) (b.j_is ∙ omega (arith, u.first.j)) n b.bits_are
 
   tail-run : (k : ℕ) → Slots k r.front.phase r.back → 1 ≤ k → begins-at →
       (runs 9296 r x l).tail ≡ (if eqb k 1 then no_run else record { at = next_of r - 23 - 9296 - 5; j = 9291; count = 5; bits = r.points.bits })
@@ -99,7 +99,7 @@ module _ (r : Receiver) (x : Input) (l : Lent) (c : CoherentReceiver r) (w : Who
           (runs 9296 r x l).tail ≡ (if eqb k 1 then no_run else record { at = next_of r - 23 - 9296 - 5; j = 9291; count = 5; bits = r.points.bits })
       go (inl u) =
           by_test (eqb k 1) (λ t. rw t (first_run u))
-          (λ t. absurd (omega (arith, s.full-line (omega (arith, z, eqb-false k 1 t)), u.empty)))
+          (λ t. absurd (omega (arith, s.full_line (omega (arith, z, eqb-false k 1 t)), u.empty)))
       go (inr u) =
           by_test (eqb k 1) (λ t. absurd (omega (arith, s.empty (omega (arith, eqb-true k 1 t)), u.full)))
           (λ t. rw t (next-run q u))

@@ -92,7 +92,7 @@ module _ (r : Receiver) (x : Input) (l : Lent) (c : CoherentReceiver r) (w : Who
       let n : ℕ = 9291 in
       by_firsts g n
       ∙ firsts-ext (λ (i : ℕ). place_of (g i)) (λ (i : ℕ). record { at = w.head.at + i; j = 0 + i }) n (λ i k. place_is refl (omega arith))
-      ∙ sym (run-places (runs 9296 r x l).body o.body_at o.body-j o.body-count)
+      ∙ sym (run-places (runs 9296 r x l).body o.body_at o.body_j o.body_count)
 
   tail-first : Untouched r.back → places_by (waiting_of (joined_to r.back w.head.at).metas) ≡ places_of (runs 9296 r x l).tail
   unfolding places_by
@@ -106,17 +106,17 @@ module _ (r : Receiver) (x : Input) (l : Lent) (c : CoherentReceiver r) (w : Who
   tail-next u =
       let o = outs r x l c w e in
       let m = r.back.metas in
-      let n : (runs 9296 r x l).tail.count ≡ 5 = o.tail-count ∙ ap (λ (b : Back). b.metas.count) (no_gap_next r.back w.head.at u) ∙ u.five in
-      let b = o.tail-begins (omega (arith, n)) in
+      let n : (runs 9296 r x l).tail.count ≡ 5 = o.tail_count ∙ ap (λ (b : Back). b.metas.count) (no_gap_next r.back w.head.at u) ∙ u.five in
+      let b = o.tail_begins (omega (arith, n)) in
       ap (λ (b : Back). places_by (waiting_of b.metas)) (no_gap_next r.back w.head.at u)
       ∙ ap places_by (five_wait m u.five)
       ∙ five_places (λ (i : ℕ). record { at = m.first.at + i; j = m.first.j + i })
       (place_is (omega arith) (omega arith))
-      (place_is (omega (arith, u.first.at-is, u.second.at-is)) (omega (arith, u.first.j, u.second.j)))
-      (place_is (omega (arith, u.first.at-is, u.third.at-is)) (omega (arith, u.first.j, u.third.j)))
-      (place_is (omega (arith, u.first.at-is, u.fourth.at-is)) (omega (arith, u.first.j, u.fourth.j)))
-      (place_is (omega (arith, u.first.at-is, u.fifth.at-is)) (omega (arith, u.first.j, u.fifth.j)))
-      ∙ sym (run-places (runs 9296 r x l).tail b.at-is b.j-is n)
+      (place_is (omega (arith, u.first.at_is, u.second.at_is)) (omega (arith, u.first.j, u.second.j)))
+      (place_is (omega (arith, u.first.at_is, u.third.at_is)) (omega (arith, u.first.j, u.third.j)))
+      (place_is (omega (arith, u.first.at_is, u.fourth.at_is)) (omega (arith, u.first.j, u.fourth.j)))
+      (place_is (omega (arith, u.first.at_is, u.fifth.at_is)) (omega (arith, u.first.j, u.fifth.j)))
+      ∙ sym (run-places (runs 9296 r x l).tail b.at_is b.j_is n)
 
   tail-places : places_by (waiting_of (joined_to r.back w.head.at).metas) ≡ places_of (runs 9296 r x l).tail
   tail-places = go (due_is r x l c w e).back

@@ -90,13 +90,13 @@ module _ (r : Receiver) (x : Input) (l : Lent) (c : CoherentReceiver r) where
 
   -- open sums hold what they can
   room : r.back.eq.opened ≡ true → r.back.eq.sums.count ≤ 4194304
-  room o = (c.eq.open-sums o).count
+  room o = (c.eq.open_sums o).count
 
   same_back : slot 9296 r x l ≡ [] → (left 9296 r x l).back ≡ r.back
   unfolding left after_all
   same_back e = rw e
 
-  no-sums : (heads 9296 r x l).due ≡ NoSlot → Sums r x l 0
+  no_sums : (heads 9296 r x l).due ≡ NoSlot → Sums r x l 0
   no-sums e =
       let d = none-due r x l c e in
       let b = same_back d.0 in
@@ -130,7 +130,7 @@ module _ (r : Receiver) (x : Input) (l : Lent) (c : CoherentReceiver r) where
       let b = same_back (none-due r x l c n.1).0 in
       let p = left-held ∙ ap is_held n.0 in
       let z : k + 0 ≡ k = omega arith in
-      rw (e, z, b) (record { idle = λ i. p ∙ s.idle i; held = λ i. p ∙ s.held i; empty = s.empty; full_line = s.full-line })
+      rw (e, z, b) (record { idle = λ i. p ∙ s.idle i; held = λ i. p ∙ s.held i; empty = s.empty; full_line = s.full_line })
 
   -- ---- a head
   some-heads : any_head es ≡ true → Begun 9296 r.front.phase (heads 9296 r x l)
@@ -194,7 +194,7 @@ module _ (r : Receiver) (x : Input) (l : Lent) (c : CoherentReceiver r) where
     unfolding if◌then◌else◌
     trains-now w z (inl (u, v)) =
         by_test (eqb k 1) (λ i. let e : k ≡ 1 = eqb-true k 1 i in rw e v)
-        (λ i. absurd (omega (arith, s.full-line (omega (arith, z, eqb-false k 1 i)), u.empty)))
+        (λ i. absurd (omega (arith, s.full_line (omega (arith, z, eqb-false k 1 i)), u.empty)))
     trains-now w z (inr (u, v)) =
         by_test (eqb k 1) (λ i. absurd (omega (arith, s.empty (omega (arith, eqb-true k 1 i)), u.full)))
         (λ i. rw (ne_eqb k 0 (λ e. omega (arith, e, z)), i) v)

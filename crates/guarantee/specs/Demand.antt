@@ -128,7 +128,7 @@ module _ (h : History) (s : System) (c : Call) (t : Told) (rest : List Call) whe
     pub ended : t.ended ≡ is_open (ended_in h c)
     pub frame : t.sums.frame ≡ frame_of (ended_in h c)
     pub count : t.sums.count ≡ count_of (ended_in h c)
-    pub no-sums : t.ended ≡ false → t.sums ≡ empty_sums 0
+    pub no_sums : t.ended ≡ false → t.sums ≡ empty_sums 0
     -- the receiver's own are those of the stretch that runs after the call
     pub acc : Accumulated (happens h c).pushes t.acc
     pub lent : t.lent ≡ lent_back c t.acc
@@ -144,7 +144,7 @@ module _ (h : History) (s : System) (c : Call) (t : Told) (rest : List Call) whe
     pub eighth : length ps ≡ suc m → (p k : ℕ) → Eighth 9296 (size_at ps) p k → length ps ≡ end_of 9296 k → loses_by h c ≡ true
     -- "from the next call on, its answers equal those of a new receiver started at that loss's restart position with the kept values of 01 and given
     -- the same calls", whatever that one's slot store holds
-    pub like-new : loses_by h c ≡ true → (store : List ℤ) → length store ≡ 18592 →
+    pub like_new : loses_by h c ≡ true → (store : List ℤ) → length store ≡ 18592 →
         told_all (after_call s c) rest ≡ told_all (begins (next_in h + 1) (kept_after h c) store) rest
 
   -- "no head or soft bit comes before lock": only after a lock on an earlier symbol
@@ -163,7 +163,7 @@ module _ (h : History) (s : System) (c : Call) (t : Told) (rest : List Call) whe
   -- "the receiver is locked after it and not before": as its own lock has it, and as a period's end tells; of a call that does not end the stretch
   pub record LockTold : Type 0 where
     pub locked : ends_stretch h c ≡ false → (p : ℕ) → LockBy 9296 (size_at ps) p (length ps) → (is_locked lock_after_lem ≡ true) × (offset_of lock_after_lem ≡ p)
-    pub locked-only : ends_stretch h c ≡ false → is_locked lock_after_lem ≡ true → LockBy 9296 (size_at ps) (offset_of lock_after_lem) (length ps)
+    pub locked_only : ends_stretch h c ≡ false → is_locked lock_after_lem ≡ true → LockBy 9296 (size_at ps) (offset_of lock_after_lem) (length ps)
     pub period : ends_stretch h c ≡ false → (q : SyncStats) → Among (IsPeriod q) t.events → (q.locked ≡ is_locked lock_after_lem) × (q.offset ≡ offset_of lock_after_lem)
 
   -- "Whenever, in every period of 9,296 after the loss, the rotated symbols have correlation size at least P at one fixed position and at most Q at all

@@ -68,7 +68,7 @@ pub record Silent (soft : List ℤ) (t : Told) : Type 0 where
   pub refusal : t.refusal ≡ 0
   pub events : t.events ≡ no_events
   pub runs : t.runs ≡ no_runs
-  pub soft-is : t.soft ≡ soft
+  pub soft_is : t.soft ≡ soft
 
 -- ---- the claim: symbols 0 .. used - 1 as calls one after another
 pub record FeedIs (s : System) (d : Feed) : Type 0 where

@@ -63,7 +63,7 @@ pub record ItemLost (h : History) (s : System) (x : Item) (c : Call) (ds : List 
   pub last : ds ≡ []
   -- "from the next call on, its answers equal those of a new receiver started at that loss's restart position with the kept values of 01 and given the same
   -- calls": the same feeds too, each of which uses as many symbols, whatever that one's slot store holds
-  pub like-new : (store : List ℤ) → length store ≡ 18592 → told_items (after_item s x) rest ≡ told_items (begins (next_in h + 1) (kept_after h c) store) rest
+  pub like_new : (store : List ℤ) → length store ≡ 18592 → told_items (after_item s x) rest ≡ told_items (begins (next_in h + 1) (kept_after h c) store) rest
 
 module _ (at : ℕ) (step : ℤ) (store : List ℤ) where
   abbrev new : System

@@ -66,9 +66,9 @@ next_taken f l len e =
     }
 
 pub record SetsTaken (learned nominal bits : ℕ) : Type 0 where
-  pub learned-long : learned ≡ 124
-  pub nominal-long : nominal ≡ 124
-  pub bits-ok : Bits bits
+  pub learned_long : learned ≡ 124
+  pub nominal_long : nominal ≡ 124
+  pub bits_ok : Bits bits
 
 pub sets_taken : (learned nominal bits : ℕ) → sets_refusal learned nominal bits ≡ 0 → SetsTaken learned nominal bits
 unfolding sets_refusal
@@ -78,9 +78,9 @@ sets_taken learned nominal bits e =
     let p = neither a (b || bad_bits bits) (no_0 (a || (b || bad_bits bits)) 3 0 e).0 in
     let q = neither b (bad_bits bits) p.1 in
     record {
-      learned-long = eqb-true learned 124 (not_false (eqb learned 124) p.0);
-      nominal-long = eqb-true nominal 124 (not_false (eqb nominal 124) q.0);
-      bits-ok = good-bits bits q.1;
+      learned_long = eqb-true learned 124 (not_false (eqb learned 124) p.0);
+      nominal_long = eqb-true nominal 124 (not_false (eqb nominal 124) q.0);
+      bits_ok = good-bits bits q.1;
     }
 
 -- ---- a part is empty exactly where it was refused: a set has at least four numbers
@@ -107,6 +107,6 @@ refused_empty learned nominal flags bits =
     (λ t.
     let z = eqb-true n 0 t in
     let k = sets_taken (length learned) (length nominal) bits z in
-    let l : 1 ≤ length part = if_both (λ (xs : List ℤ). 1 ≤ length (set_of bits xs)) (get_or flags (bits - 1) false) learned nominal (part_some bits learned k.bits-ok k.learned-long) (part_some bits nominal k.bits-ok k.nominal-long) in
+    let l : 1 ≤ length part = if_both (λ (xs : List ℤ). 1 ≤ length (set_of bits xs)) (get_or flags (bits - 1) false) learned nominal (part_some bits learned k.bits_ok k.learned_long) (part_some bits nominal k.bits_ok k.nominal_long) in
     rw (if_yes _ part [] t) (if_no _ 4 0 (ne_eqb (length part) 0 (λ e. omega (arith, e, l))) ∙ sym z))
     (λ t. rw (if_no _ part [] t) (if_yes _ 4 0 refl ∙ sym (refused_4 (length learned) (length nominal) bits t)))

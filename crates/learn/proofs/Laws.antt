@@ -143,7 +143,7 @@ good_best best e =
     within (negsuc n) l h = omega (arith, ltb-false (2 ^ 33 - 1) n l)
 
 pub record PilotTaken (l : Learn) (bits t : ℕ) : Type 0 where
-  pub bits-ok : Bits bits
+  pub bits_ok : Bits bits
   pub learn_ok : LearnOk l
   pub in_range : learn_in_range l ≡ true
   pub room : count_at l.count (place_of bits t) < 67108864
@@ -156,7 +156,7 @@ pilot_taken l bits t e =
     let r = no_0 (ltb 31 t) 5 _ q.1 in
     let c = count_at l.count (place_of bits t) in
     record {
-      bits-ok = good-bits bits p.0;
+      bits_ok = good-bits bits p.0;
       learn_ok = learn_ok l q.0;
       in_range = q.0;
       room = leb-false 67108864 c (no_0 (leb 67108864 c) 7 0 r.1).0;
@@ -166,7 +166,7 @@ pub record NoiseTaken (l : Learn) (best : ℤ) : Type 0 where
   pub learn_ok : LearnOk l
   pub in_range : learn_in_range l ≡ true
   pub room : l.samples < 67108864
-  pub best-ok : nat_abs best ≤ 2 ^ 33
+  pub best_ok : nat_abs best ≤ 2 ^ 33
 
 pub noise_taken : (l : Learn) (best : ℤ) → noise_refusal l best ≡ 0 → NoiseTaken l best
 unfolding noise_refusal
@@ -177,12 +177,12 @@ noise_taken l best e =
       learn_ok = learn_ok l p.0;
       in_range = p.0;
       room = leb-false 67108864 l.samples (no_0 (leb 67108864 l.samples) 7 0 q.1).0;
-      best-ok = good_best best q.0;
+      best_ok = good_best best q.0;
     }
 
 pub record PointsTaken (l : Learn) (bits len : ℕ) : Type 0 where
   pub long : len ≡ 124
-  pub bits-ok : Bits bits
+  pub bits_ok : Bits bits
   pub learn_ok : LearnOk l
 
 pub points_taken : (l : Learn) (bits len : ℕ) → points_refusal l bits len ≡ 0 → PointsTaken l bits len
@@ -192,6 +192,6 @@ points_taken l bits len e =
     let q = neither (not (eqb len 124)) (bad_bits bits) p.0 in
     record {
       long = eqb-true len 124 (not_false (eqb len 124) q.0);
-      bits-ok = good-bits bits q.1;
+      bits_ok = good-bits bits q.1;
       learn_ok = learn_ok l (yes_0 (learn_in_range l) 0 5 p.1).0;
     }

@@ -59,11 +59,11 @@ answer_coherent l (pilot bits t zi zq) c f =
     if_either (λ (x : Learned). Coherent x.learn) (eqb (pilot_refusal l bits t) 0) _ _
     (λ e.
     let k = pilot_taken l bits t (eqb-true (pilot_refusal l bits t) 0 e) in
-    piloted-coherent l (place_of bits t) zi zq c (place_below bits t k.bits-ok) k.room f.0 f.1)
+    piloted-coherent l (place_of bits t) zi zq c (place_below bits t k.bits_ok) k.room f.0 f.1)
     (λ e. c)
 answer_coherent l (noise yi yq best) c f =
     if_either (λ (x : Learned). Coherent x.learn) (eqb (noise_refusal l best) 0) _ _
-    (λ e. let k = noise_taken l best (eqb-true (noise_refusal l best) 0 e) in sampled_coherent l yi yq best c k.room f.0 f.1 k.best-ok)
+    (λ e. let k = noise_taken l best (eqb-true (noise_refusal l best) 0 e) in sampled_coherent l yi yq best c k.room f.0 f.1 k.best_ok)
     (λ e. c)
 
 pub answers_coherent : (l : Learn) (cs : List Call) → Coherent l → CallsFit cs → Coherent (learn_after l cs)
@@ -134,22 +134,22 @@ pub record Added (l m : Learn) (a : ℕ) (zi zq : ℤ) : Type 0 where
   pub first : sum_at m.sum (2 * a) ≡ sum_at l.sum (2 * a) +ℤ zi
   pub second : sum_at m.sum (2 * a + 1) ≡ sum_at l.sum (2 * a + 1) +ℤ zq
   pub count : count_at m.count a ≡ count_at l.count a + 1
-  pub other-sums : (i : ℕ) → (i / 2 ≡ a → ⊥) → sum_at m.sum i ≡ sum_at l.sum i
-  pub other-counts : (b : ℕ) → (b ≡ a → ⊥) → count_at m.count b ≡ count_at l.count b
+  pub other_sums : (i : ℕ) → (i / 2 ≡ a → ⊥) → sum_at m.sum i ≡ sum_at l.sum i
+  pub other_counts : (b : ℕ) → (b ≡ a → ⊥) → count_at m.count b ≡ count_at l.count b
 
 pub pilot_theorem : (l : Learn) (bits t : ℕ) (zi zq : ℤ) → Coherent l → pilot_refusal l bits t ≡ 0 →
     Added l (pilot_answer l bits t zi zq).learn (place_of bits t) zi zq
 unfolding pilot_answer
 pilot_theorem l bits t zi zq c e =
-    let h = place_below bits t (pilot_taken l bits t e).bits-ok in
+    let h = place_below bits t (pilot_taken l bits t e).bits_ok in
     let a = place_of bits t in
     rw (ap (λ (x : Learned). x.learn) (if_yes (eqb (pilot_refusal l bits t) 0) (record { refusal = 0; learn = piloted_at l a zi zq }) (record { refusal = pilot_refusal l bits t; learn = l }) (eq-eqb (pilot_refusal l bits t) 0 e)))
     (record {
       first = sum_first l a zi zq c h;
       second = sum-second l a zi zq c h;
       count = count-here l a zi zq c h;
-      other-sums = sum-other l a zi zq c h;
-      other-counts = count-other l a zi zq c h;
+      other_sums = sum-other l a zi zq c h;
+      other_counts = count-other l a zi zq c h;
     })
 
 -- ---- A SET IS LEARNED where every label of it has a pilot, and nowhere else
@@ -213,10 +213,10 @@ points_theorem l bits learned e t =
     let k = points_taken l bits (length learned) e in
     rw (if_yes (eqb (points_refusal l bits (length learned)) 0) (learned_slice l bits learned) learned (eq-eqb (points_refusal l bits (length learned)) 0 e))
     (record {
-      long = learned-long l bits learned k.bits-ok k.long ∙ sym k.long;
-      inside = learned-here l bits learned k.bits-ok k.long t;
-      below = λ j h. learned-else l bits learned k.bits-ok k.long j (inl h);
-      above = λ j h. learned-else l bits learned k.bits-ok k.long j (inr h);
+      long = learned-long l bits learned k.bits_ok k.long ∙ sym k.long;
+      inside = learned-here l bits learned k.bits_ok k.long t;
+      below = λ j h. learned-else l bits learned k.bits_ok k.long j (inl h);
+      above = λ j h. learned-else l bits learned k.bits_ok k.long j (inr h);
     })
 
 -- .. otherwise all of it is as it was
@@ -340,10 +340,10 @@ pub part_theorem : (learned nominal : List ℤ) (flags : List Bool) (bits : ℕ)
 unfolding points_in_force set_of
 part_theorem learned nominal flags bits e =
     let k = sets_taken (length learned) (length nominal) bits e in
-    let fits = set_fits bits k.bits-ok in
+    let fits = set_fits bits k.bits_ok in
     rw (if_yes _ (set_of bits (if get_or flags (bits - 1) false then learned else nominal)) [] (eq-eqb (sets_refusal (length learned) (length nominal) bits) 0 e))
     (if_both (λ (xs : List ℤ). length (set_of bits xs) ≡ 2 * 2 ^ bits) (get_or flags (bits - 1) false) learned nominal
-    (part_long (set_start bits) (set_size bits) learned (rw k.learned-long fits)) (part_long (set_start bits) (set_size bits) nominal (rw k.nominal-long fits)))
+    (part_long (set_start bits) (set_size bits) learned (rw k.learned_long fits)) (part_long (set_start bits) (set_size bits) nominal (rw k.nominal_long fits)))
 
 pub empty_theorem : (learned nominal : List ℤ) (flags : List Bool) (bits : ℕ) → (sets_refusal (length learned) (length nominal) bits ≡ 0 → ⊥) →
     points_in_force learned nominal flags bits ≡ []

@@ -114,14 +114,14 @@ whole_ok s e =
 pub record PushTaken (s : SlotPhase) (len : ℕ) : Type 0 where
   pub long : len ≡ 18592
   pub in_range : phase_in_range s ≡ true
-  pub before-end : past_end s ≡ false
+  pub before_end : past_end s ≡ false
 
 pub push_taken : (s : SlotPhase) (len : ℕ) → push_refusal s len ≡ 0 → PushTaken s len
 unfolding push_refusal
 push_taken s len e =
     let p = yes_0 (eqb len 18592) _ 0 e in
     let q = yes_0 (phase_in_range s) _ 5 p.1 in
-    record { long = eqb-true len 18592 p.0; in_range = q.0; before-end = (no_0 (past_end s) 6 0 q.1).0 }
+    record { long = eqb-true len 18592 p.0; in_range = q.0; before_end = (no_0 (past_end s) 6 0 q.1).0 }
 
 pub record HeadTaken (s : SlotPhase) (h : Head) : Type 0 where
   pub in_range : phase_in_range s ≡ true

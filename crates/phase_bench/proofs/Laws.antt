@@ -56,7 +56,7 @@ due_ok a b room =
     if_either (λ (k : Headed). DueOk k.due) (eqb n 0) (record { refusal = 0; phase = begun_of b; due = due_of s b }) (record { refusal = n; phase = s; due = Nothing })
     (λ e.
     let t = head_taken s b (eqb-true n 0 e) in
-    if_both DueOk (eqb 9296 9296) (Slot (whole_of a b)) Nothing (whole_due a b (phase_ok s t.in-range) t.head room) tt)
+    if_both DueOk (eqb 9296 9296) (Slot (whole_of a b)) Nothing (whole_due a b (phase_ok s t.in_range) t.head room) tt)
     (λ e. tt)
 
 pub at_zero : (theta : ℕ) (amp : ℤ) → (head_of 0 theta amp).at + 9296 ≤ 2 ^ 62

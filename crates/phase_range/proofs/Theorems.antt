@@ -63,7 +63,7 @@ unfolding call_of push_answer head_answer restart_answer
 call_coherent s (push x) h =
     let n = push_refusal s.phase (length s.store) in
     if_either (λ (k : Kept). Coherent k.phase) (eqb n 0) (record { refusal = 0; phase = pushed_of s.phase }) (record { refusal = n; phase = s.phase })
-    (λ e. pushed_coherent s.phase h (push_taken s.phase (length s.store) (eqb-true n 0 e)).before-end)
+    (λ e. pushed_coherent s.phase h (push_taken s.phase (length s.store) (eqb-true n 0 e)).before_end)
     (λ e. h)
 call_coherent s (hear b) h =
     let n = head_refusal s.phase b in

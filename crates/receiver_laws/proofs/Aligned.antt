@@ -46,7 +46,7 @@ use native.Mathlib.Omega.{arith}
 some_begin : (p : Points) (m : Meta) (ms : List Meta) (n : ℕ) → 0 < n → BeginsWith p m (run_by p (take n (m ∷ ms)))
 unfolding run_by
 some_begin p m ms zero h = absurd (omega (arith, h))
-some_begin p m ms (suc n) h = record { at-is = refl; j-is = refl; bits_are = refl }
+some_begin p m ms (suc n) h = record { at_is = refl; j_is = refl; bits_are = refl }
 
 waits-first : (p : Points) (b : Back) (at : ℕ) → 0 < (joined_to b at).metas.count → BeginsWith p b.metas.first (run_by p (waiting_of (joined_to b at).metas))
 unfolding joined_to waiting_of restarted_back started_back no_metas
@@ -58,7 +58,7 @@ waits-first p b at =
 
 first-begins : (p : Points) (g : ℕ → Meta) (n : ℕ) → BeginsWith p (g 0) (run_by p (firsts g (suc n)))
 unfolding run_by
-first-begins p g n = rw (firsts_cons g n) (record { at-is = refl; j-is = refl; bits_are = refl })
+first-begins p g n = rw (firsts_cons g n) (record { at_is = refl; j_is = refl; bits_are = refl })
 
 -- a run of none
 run_none : (p : Points) (l : List Meta) → (run_by p l).count ≡ 0 → run_by p l ≡ no_run
@@ -78,13 +78,13 @@ runs_are p b w table store f s h =
     let k = run_count p (waiting_of from.metas) ∙ l in
     let z = first-begins p g 9290 in
     record {
-      tail-count = rw t k;
+      tail_count = rw t k;
       tail_none = rw t (run_none p (waiting_of from.metas));
-      tail-begins = rw t (λ q. waits-first p b w.head.at (omega (arith, q, k)));
-      body-count = rw d (run_count p (firsts g 9291) ∙ length-firsts g 9291);
-      body-begins = rw d z;
-      body_at = rw d (z.at-is ∙ first-at w table store);
-      body-j = rw d (z.j-is ∙ first-j w table store);
+      tail_begins = rw t (λ q. waits-first p b w.head.at (omega (arith, q, k)));
+      body_count = rw d (run_count p (firsts g 9291) ∙ length-firsts g 9291);
+      body_begins = rw d z;
+      body_at = rw d (z.at_is ∙ first-at w table store);
+      body_j = rw d (z.j_is ∙ first-j w table store);
     }
   where
     first-at : (w : WholeSlot) (table store : List ℤ) → (meta_of (corrected_of w table store 0)).at ≡ w.head.at
@@ -189,10 +189,10 @@ taps_first b c cs f s k a e =
       before = [];
       c = c;
       after = cs;
-      in-turn = refl;
+      in_turn = refl;
       out = e;
       line = line_after from c.y.i c.y.q;
-      line-is = refl;
+      line_is = refl;
       eleven = line_after_lem from c.y.i c.y.q (joined_filled b c.at k).eleven;
       is = pushed_out b c f s k a e;
     }
@@ -204,10 +204,10 @@ taps_later b c cs f s a t =
       before = c ∷ t.before;
       c = t.c;
       after = t.after;
-      in-turn = ap (λ (l : List Corrected). c ∷ l) t.in-turn;
+      in_turn = ap (λ (l : List Corrected). c ∷ l) t.in_turn;
       out = t.out;
       line = t.line;
-      line-is = t.line-is;
+      line_is = t.line_is;
       eleven = t.eleven;
       is = t.is ∙ ap (λ (u : List ℤ). output_of u t.line) (pushed_taps b c f s a.meta);
     }

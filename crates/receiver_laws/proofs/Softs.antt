@@ -41,9 +41,9 @@ further p a b rest place i vs e h t =
     record {
       before = a ∷ t.before;
       after = t.after;
-      in-turn = ap (λ (l : List AlignedSymbol). a ∷ l) t.in-turn;
+      in_turn = ap (λ (l : List AlignedSymbol). a ∷ l) t.in_turn;
       main = t.main;
-      is-main = t.is-main;
+      is_main = t.is_main;
       below = t.below;
       index = omega (arith, h, t.index, ap (λ (l : List ℤ). length l) (e t.before), length-append vs (soft_all p t.before));
     }
@@ -59,9 +59,9 @@ own p a rest i (Main m) e h =
     record {
       before = [];
       after = rest;
-      in-turn = refl;
+      in_turn = refl;
       main = m;
-      is-main = e;
+      is_main = e;
       below = omega (arith, h, length-firsts (soft_at (label_metric a.z.i a.z.q q.points) q.bits (pos q.k)) q.bits);
       index = omega arith;
     }
@@ -106,7 +106,7 @@ first p a rest j m e h =
 value_is : (p : Points) (given : List AlignedSymbol) (a : AlignedSymbol) (j i : ℕ) (t : ValueOf p given a j i) →
     get_or (soft_all p given) i (pos 0) ≡ get_or (soft_all p (a ∷ t.after)) j (pos 0)
 value_is p given a j i t =
-    ap (λ (l : List AlignedSymbol). get_or (soft_all p l) i (pos 0)) t.in-turn
+    ap (λ (l : List AlignedSymbol). get_or (soft_all p l) i (pos 0)) t.in_turn
     ∙ ap (λ (l : List ℤ). get_or l i (pos 0)) (soft_append p t.before (a ∷ t.after))
     ∙ ap (λ (n : ℕ). get_or (soft_all p t.before ++ soft_all p (a ∷ t.after)) n (pos 0)) t.index
     ∙ get_or-append-add (soft_all p t.before) (soft_all p (a ∷ t.after)) j (pos 0)
@@ -115,7 +115,7 @@ true_of : (p : Points) (given : List AlignedSymbol) (i : ℕ) (a : AlignedSymbol
     BitTrue (points_for p a.meta).bits (points_for p a.meta).points a.z.i a.z.q j (get_or (soft_all p given) i (pos 0))
 true_of p given i a j t =
     subst (λ (v : ℤ). BitTrue (points_for p a.meta).bits (points_for p a.meta).points a.z.i a.z.q j v) (sym (value_is p given a j i t))
-    (first p a t.after j t.main t.is-main t.below)
+    (first p a t.after j t.main t.is_main t.below)
 
 pub softs_true : (p : Points) (given : List AlignedSymbol) (i : ℕ) → i < length (soft_all p given) → SoftTrue p given i
 softs_true p given i h =

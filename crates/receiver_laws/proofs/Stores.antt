@@ -180,4 +180,4 @@ module _ (r : Receiver) (x : Input) (acc : List ℕ) (soft a b : List ℤ) (g : 
       rw (if_no (eqb n 0) ra rn t, if_no (eqb n 0) (lent_after 9296 r x la) la t, if_no (eqb m 0) (lent_after 9296 r x lb) lb (ap (λ (k : ℕ). eqb k 0) (sym refusal-same) ∙ t)) g)
 
   pub alike : Alike r x acc soft a b
-  alike = record { answer = answer-same; acc-is = lent-acc; soft-is = lent-soft; agree = lent-agree }
+  alike = record { answer = answer-same; acc_is = lent-acc; soft_is = lent-soft; agree = lent-agree }

@@ -18,20 +18,20 @@ use Rattle.receiver_slot.specs.Slot.{no_run, points_for, taps_for}
 
 -- ---- told as two runs
 pub record BeginsWith (p : Points) (m : Meta) (r : AlignedRun) : Type 0 where
-  pub at-is : r.at ≡ m.at
-  pub j-is : r.j ≡ m.j
+  pub at_is : r.at ≡ m.at
+  pub j_is : r.j ≡ m.j
   pub bits_are : r.bits ≡ (points_for p m).bits
 
 pub record RunsAre (p : Points) (b : Back) (w : WholeSlot) (table store : List ℤ) (r : Runs) : Type 0 where
   -- those that waited, unless a gap dropped them: the oldest first
-  pub tail-count : r.tail.count ≡ (joined_to b w.head.at).metas.count
+  pub tail_count : r.tail.count ≡ (joined_to b w.head.at).metas.count
   pub tail_none : r.tail.count ≡ 0 → r.tail ≡ no_run
-  pub tail-begins : 0 < r.tail.count → BeginsWith p b.metas.first r.tail
+  pub tail_begins : 0 < r.tail.count → BeginsWith p b.metas.first r.tail
   -- all of the slot but its last five, from its head's position and slot index 0 on
-  pub body-count : r.body.count ≡ 9291
-  pub body-begins : BeginsWith p (meta_of (corrected_of w table store 0)) r.body
+  pub body_count : r.body.count ≡ 9291
+  pub body_begins : BeginsWith p (meta_of (corrected_of w table store 0)) r.body
   pub body_at : r.body.at ≡ w.head.at
-  pub body-j : r.body.j ≡ 0
+  pub body_j : r.body.j ≡ 0
 
 -- ---- with which taps
 -- one of the aligned symbols
@@ -50,9 +50,9 @@ pub record EqualisedAt (b : Back) (cs : List Corrected) (f s : List ℤ) (a : Al
   pub before : List Corrected
   pub c : Corrected
   pub after : List Corrected
-  pub in-turn : cs ≡ before ++ c ∷ after
+  pub in_turn : cs ≡ before ++ c ∷ after
   pub out : (pushed_back (after_all b before f s) c f s).out ≡ Given a
   pub line : List ℤ
-  pub line-is : line ≡ line_after (joined_to (after_all b before f s) c.at).eq.line c.y.i c.y.q
+  pub line_is : line ≡ line_after (joined_to (after_all b before f s) c.at).eq.line c.y.i c.y.q
   pub eleven : length line ≡ 22
   pub is : a.z ≡ output_of (taps_for b a.meta) line

@@ -23,9 +23,9 @@ pub record BitTrue (bits : ℕ) (points : List ℤ) (yi yq : ℤ) (j : ℕ) (v :
 pub record ValueOf (p : Points) (given : List AlignedSymbol) (a : AlignedSymbol) (place i : ℕ) : Type 0 where
   pub before : List AlignedSymbol
   pub after : List AlignedSymbol
-  pub in-turn : given ≡ before ++ (a ∷ after)
+  pub in_turn : given ≡ before ++ (a ∷ after)
   pub main : ℕ
-  pub is-main : part_of a.meta.j ≡ Main main
+  pub is_main : part_of a.meta.j ≡ Main main
   pub below : place < (points_for p a.meta).bits
   pub index : i ≡ length (soft_all p before) + place
 

@@ -19,6 +19,6 @@ lent acc soft store = record { acc = acc; store = store; soft = soft }
 -- a symbol's call with either is answered alike, and leaves the same but for the stores, which agree again
 pub record Alike (r : Receiver) (x : Input) (acc : List ℕ) (soft a b : List ℤ) : Type 0 where
   pub answer : symbol_answer r x (lent acc soft a) ≡ symbol_answer r x (lent acc soft b)
-  pub acc-is : (symbol_lent r x (lent acc soft a)).acc ≡ (symbol_lent r x (lent acc soft b)).acc
-  pub soft-is : (symbol_lent r x (lent acc soft a)).soft ≡ (symbol_lent r x (lent acc soft b)).soft
+  pub acc_is : (symbol_lent r x (lent acc soft a)).acc ≡ (symbol_lent r x (lent acc soft b)).acc
+  pub soft_is : (symbol_lent r x (lent acc soft a)).soft ≡ (symbol_lent r x (lent acc soft b)).soft
   pub agree : Agree (symbol_answer r x (lent acc soft a)).receiver.front.phase (symbol_lent r x (lent acc soft a)).store (symbol_lent r x (lent acc soft b)).store

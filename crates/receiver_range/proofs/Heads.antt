@@ -211,7 +211,7 @@ off_goes r h (Holds x) k n q f l e z a = let y = on-held r q k h x f l e z a in 
 one_goes : (r : Run) (h : ℕ) (b : Both) (k : Taken) (n : Nco) (x : Head) (q : Run) → Read r h → 1 ≤ h → 23 ≤ r.t → Knows k → HeadOf (reading_of r b) k.course x →
     Bounded (corr_most rotated) b.f → Bounded (corr_most rotated) b.s → slot_in_range k.course.slot ≡ true → After r k q → HeldFits q (record { head = x; count = 1 })
 unfolding reading_of
-one_goes r h b k n x q d m u y o hf hs l a = new_held r q k h x d m u y (head_fits (record { at = r.base + r.t - 23; both = b }) k.course x hf hs l o) o.at-is a
+one_goes r h b k n x q d m u y o hf hs l a = new_held r q k h x d m u y (head_fits (record { at = r.base + r.t - 23; both = b }) k.course x hf hs l o) o.at_is a
 
 -- where none was held
 first_hears : (r : Run) (h : ℕ) (b : Both) (k : Taken) (n : Nco) (x : Head) → NcoFits n → Read r h → 1 ≤ h → 23 ≤ r.t → Knows k → (k.lost ≡ true → k.second ≡ NoHead) →
@@ -244,10 +244,10 @@ next_hears r h s b k n x c f g d m u y e z o =
     let at : s.head.at + 9296 ≡ r.base + r.t - 23 = omega (arith, f.counted, w) in
     record {
       nco = c;
-      due = record { head = refl; next = o.at-is; spans = at };
+      due = record { head = refl; next = o.at_is; spans = at };
       quiet = λ t. absurd (never (sym t ∙ z));
       goes = λ t hf hs l q a.
-          record { phase = rw (begun_pushed x) (one_goes r h b k n x q d m u y o hf hs l a); follows = rw (begun_pushed x) (refl, o.at-is ∙ sym at) };
+          record { phase = rw (begun_pushed x) (one_goes r h b k n x q d m u y o hf hs l a); follows = rw (begun_pushed x) (refl, o.at_is ∙ sym at) };
     }
 
 -- ---- a reading, by its stage

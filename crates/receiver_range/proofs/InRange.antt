@@ -75,7 +75,7 @@ tally_within_lem : (t : ℕ) (y : Tally) → TallyFits rotated t y → tally_wit
 unfolding tally_within
 tally_within_lem t y h =
     rw (
-      le-leb y.peak 3758114816 (omega (arith, h.peak, rotated-figures.peak-is)),
+      le-leb y.peak 3758114816 (omega (arith, h.peak, rotated-figures.peak_is)),
       le-leb y.place 9295 h.place,
       le-leb y.sum 34935435329536
           (omega (arith, sum_most (running_of t) (most_of rotated) y.sum (running_most t) h.sum, rotated-figures.sum_is)),
@@ -179,7 +179,7 @@ eq_within_lem : (e : Equaliser) → (e.filled ≡ 0) ⊎ (e.filled ≡ 11) → C
     (e.opened ≡ true → e.sums.count ≤ 4194288) → eq_within e ≡ true
 unfolding eq_within
 eq_within_lem e f c r g =
-    let t : (if e.opened then sums_within e.sums else true) ≡ true = if_either (λ (b : Bool). b ≡ true) e.opened _ _ (λ o. sums_within_lem e.sums (c.open-sums o) (r o) (g o)) (λ o. refl) in
+    let t : (if e.opened then sums_within e.sums else true) ≡ true = if_either (λ (b : Bool). b ≡ true) e.opened _ _ (λ o. sums_within_lem e.sums (c.open_sums o) (r o) (g o)) (λ o. refl) in
     rw (fill e.filled f, t)
   where
     fill : (n : ℕ) → (n ≡ 0) ⊎ (n ≡ 11) → (eqb n 0 || eqb n 11) ≡ true
@@ -190,7 +190,7 @@ eq_within_lem e f c r g =
 meta_within_lem : (k a : ℕ) (m : Meta) → 55776 ≤ a → a + 24 ≤ 2 ^ 62 → Waits k a m → meta_within k m ≡ true
 unfolding meta_within
 meta_within_lem k a m low high w =
-    rw (eq-eqb m.j (9291 + k) w.j, within_is (55771 + k) (2 ^ 62 - 29 + k) m.at (omega (arith, w.at-is)) (omega (arith, w.at-is)), w.slot)
+    rw (eq-eqb m.j (9291 + k) w.j, within_is (55771 + k) (2 ^ 62 - 29 + k) m.at (omega (arith, w.at_is)) (omega (arith, w.at_is)), w.slot)
 
 untouched_within : (b : Back) → Untouched b → CoherentEq b.eq → (b.eq.opened ≡ true → RightFits b.eq.sums) →
     (b.eq.opened ≡ true → b.eq.sums.count ≤ 4194288) → back_within b ≡ true
@@ -218,7 +218,7 @@ back_within_lem : (r : Run) (s : SlotPhase) (b : Back) → (0 < r.t → r.base +
 back_within_lem r s b time h f c g k = go s h f
   where
     few : b.eq.opened ≡ true → b.eq.sums.count ≤ 4194288
-    few o = few_trained b.eq.sums.count (k o).slots (c.open-sums o).count (k o).count
+    few o = few_trained b.eq.sums.count (k o).slots (c.open_sums o).count (k o).count
 
     go : (s : SlotPhase) → PhaseFits r s → BackFits s b → back_within b ≡ true
     go Idle h f = untouched_within b f c g few

@@ -48,13 +48,13 @@ use Rattle.receiver_range.specs.Coherent.{Untouched, Waits, Adjoins, right_most,
 -- ---- who waits
 -- number u from the five symbols before a slot's head on: the slot's own begin with 5
 pub record Place (at u : ℕ) (m : Meta) : Type 0 where
-  pub at-is : m.at + 5 ≡ at + u
+  pub at_is : m.at + 5 ≡ at + u
   pub j : m.j ≡ (9291 + u) % 9296
   pub slot : slot_in_range m.slot ≡ true
 
 -- symbol n of a slot whose head stands at a position
 pub record Symbol (at n : ℕ) (c : Corrected) : Type 0 where
-  pub at-is : c.at ≡ at + n
+  pub at_is : c.at ≡ at + n
   pub j : c.j ≡ n
   pub slot : slot_in_range c.slot ≡ true
   pub short : Short c
@@ -76,7 +76,7 @@ place_is at u v m e p = subst (λ (x : ℕ). Place at x m) e p
 
 own_place : (at n : ℕ) (c : Corrected) → n < 9296 → Symbol at n c → Place at (n + 5) (meta_of c)
 unfolding meta_of
-own_place at n c l s = record { at-is = omega (arith, s.at-is); j = s.j ∙ omega arith; slot = s.slot }
+own_place at n c l s = record { at_is = omega (arith, s.at_is); j = s.j ∙ omega arith; slot = s.slot }
 
 joined-place : (at n c i : ℕ) (m old : Meta) → c < 5 → Place at (n + 5) m → (i < c → Place at (n + 5 - c + i) old) → i < c + 1 →
     Place at (suc n + 5 - (c + 1) + i) (placed_at c i m old)
@@ -149,9 +149,9 @@ filling_step at c₀ f₀ n b c f s hf hs l y p =
     let w = b.metas in
     let k = w.count in
     let m = meta_of c in
-    let g : gap_at b.last c.at ≡ false = rw y.at-is p.follows in
+    let g : gap_at b.last c.at ≡ false = rw y.at_is p.follows in
     let o = own_place at n c l y in
-    let e : c.at + 1 ≡ at + suc n = omega (arith, y.at-is) in
+    let e : c.at + 1 ≡ at + suc n = omega (arith, y.at_is) in
     let after : not (eqb (c.at + 1) (at + suc n)) ≡ false = rw (eq-eqb (c.at + 1) (at + suc n) e) in
     by_test (ltb k 5)
     (λ t.
@@ -161,7 +161,7 @@ filling_step at c₀ f₀ n b c f s hf hs l y p =
       count = omega (arith, p.count, h);
       filled = omega (arith, p.filled);
       follows = after;
-      last = λ i z. ap At (omega (arith, y.at-is, z));
+      last = λ i z. ap At (omega (arith, y.at_is, z));
       first = joined-place at n k 0 m w.first h o p.first;
       second = joined-place at n k 1 m w.second h o p.second;
       third = joined-place at n k 2 m w.third h o p.third;
@@ -176,7 +176,7 @@ filling_step at c₀ f₀ n b c f s hf hs l y p =
       count = omega (arith, p.count, h);
       filled = trained_filled (pushed_eq b.eq c.y.i c.y.q) w.first f s ∙ omega (arith, p.filled);
       follows = after;
-      last = λ i z. ap At (omega (arith, y.at-is, z));
+      last = λ i z. ap At (omega (arith, y.at_is, z));
       first = λ i. moved-place at n k 0 w.second p.second five (omega arith);
       second = λ i. moved-place at n k 1 w.third p.third five (omega arith);
       third = λ i. moved-place at n k 2 w.fourth p.fourth five (omega arith);
@@ -302,7 +302,7 @@ trained_sound e m f s hf hs room k =
     let o = trains_open e t in
     let c = k.coherent in
     record {
-      coherent = open_coherent e _ c (train_sound e.sums e.line di dq (c.open-sums o) c.short (sfits_abs w16 di (omega arith)) (sfits_abs w16 dq (omega arith)) (room l t));
+      coherent = open_coherent e _ c (train_sound e.sums e.line di dq (c.open_sums o) c.short (sfits_abs w16 di (omega arith)) (sfits_abs w16 dq (omega arith)) (room l t));
       right = λ u. right_trained e.sums e.line di dq c.short hi hq (k.right o);
     })
 
@@ -374,7 +374,7 @@ adjoins_filling at b a =
     none k e = omega arith
 
     waited : (k : ℕ) (m : Meta) → k < 5 → Waits k at m → Place at (0 + 5 - b.metas.count + k) m
-    waited k m l w = record { at-is = omega (arith, w.at-is, a.five); j = w.j ∙ omega (arith, a.five); slot = w.slot }
+    waited k m l w = record { at_is = omega (arith, w.at_is, a.five); j = w.j ∙ omega (arith, a.five); slot = w.slot }
 
 pub filled_adjoins : (at c₀ f₀ : ℕ) (b : Back) → 46480 ≤ at → Filling at c₀ f₀ 9296 b → Adjoins (at + 9296) b
 filled_adjoins at c₀ f₀ b low p =
@@ -396,4 +396,4 @@ filled_adjoins at c₀ f₀ b low p =
     five = omega (arith, p.count)
 
     waits : (k : ℕ) (m : Meta) → k < 5 → Place at (9296 + 5 - b.metas.count + k) m → Waits k (at + 9296) m
-    waits k m l w = record { j = w.j ∙ omega (arith, five); at-is = omega (arith, w.at-is, five); slot = w.slot }
+    waits k m l w = record { j = w.j ∙ omega (arith, five); at_is = omega (arith, w.at_is, five); slot = w.slot }

@@ -93,7 +93,7 @@ module _ (at : ℕ) (cs : ℕ → Corrected) (f s : List ℤ) (hf : ones_of f �
   fills (suc n) h = subst (Filling at c₀ f₀ (suc n)) (sym (gone-step n)) (filling_step at c₀ f₀ n (gone n) (cs n) f s hf hs h (good n h) (fills n (omega arith)))
 
   follows : (n : ℕ) → n < 9296 → gap_at (gone n).last (cs n).at ≡ false
-  follows n h = rw (good n h).at-is (fills n (omega arith)).follows
+  follows n h = rw (good n h).at_is (fills n (omega arith)).follows
 
   no-breaks : (n : ℕ) → n ≤ 9296 → unbroken b.last (firsts cs n) ≡ true
   unfolding firsts
@@ -210,7 +210,7 @@ saturated_fits v = let t = sat16_theorem v in fits (sat16_of v) t.low t.high
 
 corrected_symbol : (w : WholeSlot) (table store : List ℤ) → slot_in_range w.head.slot ≡ true → (j : ℕ) → j < 9296 → Symbol w.head.at j (corrected_of w table store j)
 unfolding corrected_of scaled_of
-corrected_symbol w table store h j l = record { at-is = refl; j = refl; slot = h; short = record { i = saturated_fits _; q = saturated_fits _ } }
+corrected_symbol w table store h j l = record { at_is = refl; j = refl; slot = h; short = record { i = saturated_fits _; q = saturated_fits _ } }
 
 -- what a number of trainings does: open sums count them, and are too full (8) exactly if there is no room for all; closed ones are never
 pub record Trains (n : ℕ) (b : Back) (cs : List Corrected) (f s : List ℤ) : Type 0 where

@@ -31,7 +31,7 @@ use Rattle.receiver_range.proofs.Even.{cordic_even}
 
 -- ---- a head as told
 pub record HeadOf (r : Reading) (c : Course) (h : Head) : Type 0 where
-  pub at-is : h.at ≡ r.at
+  pub at_is : h.at ≡ r.at
   pub corr : (m : ℕ) → Bounded m r.both.f → Bounded m r.both.s → Bounded m h.corr
   pub amp : h.amp ≡ (cordic_of h.corr.re h.corr.im).size
   pub slot : h.slot ≡ c.slot
@@ -49,7 +49,7 @@ said_bounded ssync b last m hf hs =
 
 head_of_lem : (ssync : Bool) (last : Corr) (r : Reading) (c : Course) → HeadOf r c (head_of (said_of ssync r.both last) r.at c.slot)
 unfolding head_of
-head_of_lem ssync last r c = record { at-is = refl; corr = said_bounded ssync r.both last; amp = refl; slot = refl; none = refl; even = cordic_even _ _ }
+head_of_lem ssync last r c = record { at_is = refl; corr = said_bounded ssync r.both last; amp = refl; slot = refl; none = refl; even = cordic_even _ _ }
 
 -- its size is the CORDIC's of parts within 98,328
 amp_size : (re im : ℤ) → nat_abs re ≤ 98328 → nat_abs im ≤ 98328 → (pos 0 ≤ℤ (cordic_of re im).size) × ((cordic_of re im).size ≤ℤ pos 179130)

@@ -77,7 +77,7 @@ pub record Untouched (b : Back) : Type 0 where
 -- .. or whole slots have, and the next one, whose head stands at a position, adjoins
 pub record Waits (k at : ℕ) (m : Meta) : Type 0 where
   pub j : m.j ≡ 9291 + k
-  pub at-is : m.at + 5 ≡ at + k
+  pub at_is : m.at + 5 ≡ at + k
   pub slot : slot_in_range m.slot ≡ true
 
 pub record Adjoins (at : ℕ) (b : Back) : Type 0 where

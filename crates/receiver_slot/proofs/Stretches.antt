@@ -194,14 +194,14 @@ module _ (p : Points) (rows line : List ℤ) (w : WholeSlot) (table store : List
 
 -- ---- how far the rest of a slot is: line l, place o and buffer soft are those behind k symbols
 pub record Done (p : Points) (rows line : List ℤ) (w : WholeSlot) (table store : List ℤ) (k place o : ℕ) (l soft old : List ℤ) : Type 0 where
-  pub line-is : l ≡ line_on k line w table store
+  pub line_is : l ≡ line_on k line w table store
   pub place_is : o ≡ place + length (soft_on k p rows line w table store)
-  pub soft-is : soft ≡ put_at place (soft_on k p rows line w table store) old
+  pub soft_is : soft ≡ put_at place (soft_on k p rows line w table store) old
 
 module _ {p : Points} {rows line : List ℤ} {w : WholeSlot} {table store : List ℤ} {place : ℕ} {old : List ℤ} (r : RestOk line rows w p place table store old) where
   pub done_none : Done p rows line w table store 0 place place line old old
   unfolding line_on soft_on
-  done_none = record { line-is = refl; place_is = omega arith; soft-is = sym (put_none place old) }
+  done_none = record { line_is = refl; place_is = omega arith; soft_is = sym (put_none place old) }
 
   long-so-far : (k : ℕ) → k ≤ 9267 → place + length (soft_on k p rows line w table store) ≤ length old
   long-so-far k h = omega (arith, softs-room p rows line w table store k h, r.room)
@@ -209,19 +209,19 @@ module _ {p : Points} {rows line : List ℤ} {w : WholeSlot} {table store : List
   group-long : (k n m : ℕ) → Group p k n m → length (soft_on (k + n) p rows line w table store) ≡ length (soft_on k p rows line w table store) + m * p.bits
   group-long k n m c =
       let b = block p rows line w table store k m m in
-      ap {B = ℕ} (λ (l : List ℤ). length l) (group-soft p rows line w table store r.line-long r.ends k n m c)
+      ap {B = ℕ} (λ (l : List ℤ). length l) (group-soft p rows line w table store r.line_long r.ends k n m c)
       ∙ length-append (soft_on k p rows line w table store) b
       ∙ ap {B = ℕ} (λ (i : ℕ). length (soft_on k p rows line w table store) + i) (length_block (outs_on k m rows (line_on k line w table store) w table store) p.points p.bits (pos p.k) m)
 
   module _ {k o : ℕ} {l soft : List ℤ} (d : Done p rows line w table store k place o l soft old) where
     pub done-length : k ≤ 9267 → length soft ≡ length old
-    done-length h = ap {B = ℕ} (λ (x : List ℤ). length x) d.soft-is ∙ put_length place (soft_on k p rows line w table store) old (long-so-far k h)
+    done-length h = ap {B = ℕ} (λ (x : List ℤ). length x) d.soft_is ∙ put_length place (soft_on k p rows line w table store) old (long-so-far k h)
 
     -- the group fits
     pub group-ok : (n m : ℕ) (z : List ℤ) → Group p k n m → k + n ≤ 9267 → n ≤ 140 → m ≤ 136 → length z ≡ 272 → GroupOk l z rows w p k n m o table store soft
     group-ok n m z c h f s q =
         record {
-          line_long = ap {B = ℕ} (λ (x : List ℤ). length x) d.line-is ∙ line_long p rows line w table store r.line-long k;
+          line_long = ap {B = ℕ} (λ (x : List ℤ). length x) d.line_is ∙ line_long p rows line w table store r.line_long k;
           outs = omega (arith, s, q);
           bytes = r.bytes;
           whole = r.whole;
@@ -244,12 +244,12 @@ module _ {p : Points} {rows line : List ℤ} {w : WholeSlot} {table store : List
         let x = line_on k line w table store in
         let b = block_bits (outs_on k m rows x w table store) p.points p.bits (pos p.k) m in
         record {
-          line-is = f ∙ ap (λ (y : List ℤ). take 22 (ahead_on k n (behind_of y) w table store)) d.line-is ∙ sym (group-line p rows line w table store r.line-long k n);
+          line_is = f ∙ ap (λ (y : List ℤ). take 22 (ahead_on k n (behind_of y) w table store)) d.line_is ∙ sym (group-line p rows line w table store r.line_long k n);
           place_is = omega (arith, e, d.place_is, group-long k n m c);
-          soft-is = g ∙ ap (λ (y : List ℤ). put_at o (block_bits (outs_on k m rows y w table store) p.points p.bits (pos p.k) m) soft) d.line-is
-              ∙ ap₂ (λ (i : ℕ) (y : List ℤ). put_at i b y) d.place_is d.soft-is
+          soft_is = g ∙ ap (λ (y : List ℤ). put_at o (block_bits (outs_on k m rows y w table store) p.points p.bits (pos p.k) m) soft) d.line_is
+              ∙ ap₂ (λ (i : ℕ) (y : List ℤ). put_at i b y) d.place_is d.soft_is
               ∙ put_more place s b old (omega (arith, r.room))
-              ∙ ap (λ (y : List ℤ). put_at place y old) (sym (group-soft p rows line w table store r.line-long r.ends k n m c));
+              ∙ ap (λ (y : List ℤ). put_at place y old) (sym (group-soft p rows line w table store r.line_long r.ends k n m c));
         }
 
 -- where group g begins and ends

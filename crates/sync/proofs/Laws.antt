@@ -78,8 +78,8 @@ accepted_stores s i q f w acc v b p x ev eb ep ex = rw (ex, ep, eb, ev)
 -- ---- no refusal: what is then known
 pub record Taking (len : ℕ) (f w : List ℤ) (r : Run) : Type 0 where
   pub long : len ≡ 9296
-  pub ones-f : ones_of f ≡ true
-  pub ones-w : ones_of w ≡ true
+  pub ones_f : ones_of f ≡ true
+  pub ones_w : ones_of w ≡ true
   pub ready : RunOk r
 
 no : {X : Type 0} (n : ℕ) → suc n ≡ 0 → X
@@ -102,7 +102,7 @@ taking len f w r h =
     (λ e. no 6 (sym (if_yes past 7 0 e) ∙ h3))
     (λ e.
     let o = and_both (ones_of f) (ones_of w) b in
-    record { long = eqb-true len 9296 a; ones-f = o.0; ones-w = o.1; ready = run_ready r d e }))
+    record { long = eqb-true len 9296 a; ones_f = o.0; ones_w = o.1; ready = run_ready r d e }))
     (λ d. no 5 (sym (if_no (run_in_range r) n7 6 d) ∙ h2)))
     (λ b. no 1 (sym (if_no (ones_of f && ones_of w) n6 2 b) ∙ h1)))
     (λ a. no 0 (sym (if_no (eqb len 9296) n2 1 a) ∙ h))

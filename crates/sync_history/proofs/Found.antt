@@ -91,7 +91,7 @@ module _ (n : ℕ) (s : ℕ → ℕ) where
   found : (k p l : ℕ) → LockIn n s p l → l < k → (lock_in n s k ≡ some l) × ((figures n s l).place ≡ p)
   found k p l f h = (first_found (fourth_at n s) k l (lock-first p l f) h, (true-fourth p l f.fourth).1)
 
-  found-only : (k l : ℕ) → lock_in n s k ≡ some l → (l < k) × LockIn n s (figures n s l).place l
+  found_only : (k l : ℕ) → lock_in n s k ≡ some l → (l < k) × LockIn n s (figures n s l).place l
   found-only k l e = let w = first-is (fourth_at n s) k l e in (w.0, first-lock l w.1)
 
   eighth : (k p : ℕ) → Eighth n s p k → (l : ℕ) × (lock_in n s k ≡ some l) × (eighth_at n s l k ≡ true)
@@ -100,7 +100,7 @@ module _ (n : ℕ) (s : ℕ → ℕ) where
       let w = found k p x.locked x.falls (omega (arith, x.after)) in
       (x.locked, w.0, rw (le-leb (x.locked + 8) k x.after, w.1, all_others p k 8 (omega (arith, x.after)) x.others) refl)
 
-  eighth-only : (k l : ℕ) → lock_in n s k ≡ some l → eighth_at n s l k ≡ true → Eighth n s (figures n s l).place k
+  eighth_only : (k l : ℕ) → lock_in n s k ≡ some l → eighth_at n s l k ≡ true → Eighth n s (figures n s l).place k
   unfolding eighth_at
   eighth-only k l e x =
       let w = found-only k l e in
@@ -108,4 +108,4 @@ module _ (n : ℕ) (s : ℕ → ℕ) where
       record { locked = l; falls = w.1; after = leb-true (l + 8) k u.0; others = others-all (figures n s l).place k 8 u.1 }
 
   pub lock-found : (k : ℕ) → LockFound n s k
-  lock-found k = record { found = found k; found-only = found-only k; eighth = eighth k; eighth-only = eighth-only k }
+  lock-found k = record { found = found k; found_only = found-only k; eighth = eighth k; eighth_only = eighth-only k }

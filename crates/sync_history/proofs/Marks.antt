@@ -42,9 +42,9 @@ readings a b (suc j) =
 
 pub record MarkerRuns : Type 0 where
   -- the first mark, at head 5, begins the numbers
-  pub first-mark : (readings 5 125 6).course.slot ≡ In 0 0
+  pub first_mark : (readings 5 125 6).course.slot ≡ In 0 0
   -- a mark a frame later is expected, and begins frame 1
-  pub second-mark : ((readings 5 125 126).course.slot ≡ In 0 1) × ((readings 5 125 126).course.misses ≡ 0)
+  pub second_mark : ((readings 5 125 126).course.slot ≡ In 0 1) × ((readings 5 125 126).course.misses ≡ 0)
   -- missed once: frame 1 all the same
   pub missed : ((readings 5 5 126).course.slot ≡ In 0 1) × ((readings 5 5 126).course.misses ≡ 1) × ((readings 5 5 126).lost ≡ false)
   -- missed twice: lost, and not before
@@ -53,12 +53,12 @@ pub record MarkerRuns : Type 0 where
 
 pub marker_runs : MarkerRuns
 unfolding word readings read_of first_of both_heads known_of fsync_taken ssync_taken fsync_of ssync_of is_fsync said_of negated margin_of side_of mag_approx fsync_course elsewhere_of due_of tick_of framed_of frame_of gap_of frame_due unknown_slot next_slot swayed_of marks_of choice.if◌then◌else◌
-marker_runs = record { first-mark = refl; second-mark = (refl, refl); missed = (refl, refl, refl); held = refl; loses = refl }
+marker_runs = record { first_mark = refl; second_mark = (refl, refl); missed = (refl, refl, refl); held = refl; loses = refl }
 
 -- the same by the rules alone: the first mark begins the numbers, a mark a frame later is expected, one miss does not lose, two in a row do
 pub record RuleRuns : Type 0 where
-  pub first-mark : first_mark (word 5 125) 126 ≡ some 5
-  pub second-mark : marked_at (word 5 125) 125 ≡ true
+  pub first_mark : first_mark (word 5 125) 126 ≡ some 5
+  pub second_mark : marked_at (word 5 125) 125 ≡ true
   pub numbers : (slot_at 9296 37184 Never (word 5 125) 5 ≡ In 0 0) × (slot_at 9296 37184 Never (word 5 125) 125 ≡ In 0 1)
   pub missed : (missed_at (word 5 5) 125 ≡ true) × (markers_lose (word 5 5) 125 ≡ false)
   pub stray : stray_at (word 5 11) 11 ≡ true
@@ -67,8 +67,8 @@ pub record RuleRuns : Type 0 where
 
 pub rule_runs : RuleRuns
 unfolding word parity ssync_at f_at positive_at majority clamped marked_at first_to earlier expected missed_since missed_at markers_lose stray_since stray_at slot_at slot_since frame_at frame_of position_at record_to record_since negated margin_of side_of mag_approx choice.if◌then◌else◌
-rule_runs = record { first-mark = refl; second-mark = refl; numbers = (refl, refl); missed = (refl, refl); stray = refl; loses = refl; kept = refl }
+rule_runs = record { first_mark = refl; second_mark = refl; numbers = (refl, refl); missed = (refl, refl); stray = refl; loses = refl; kept = refl }
 
 -- so a loss by markers happens
 pub marker_loss_happens : MarkerLoss (word 5 5) 245
-marker_loss_happens = (markers-tell (word 5 5) 245).loses-only rule_runs.loses
+marker_loss_happens = (markers-tell (word 5 5) 245).loses_only rule_runs.loses

@@ -351,4 +351,4 @@ module _ (b : ℕ → Both) (i : ℕ) where
       })
 
   pub markers-tell : MarkersTell b i
-  markers-tell = record { loses = both-missed; loses-only = missed-both }
+  markers-tell = record { loses = both-missed; loses_only = missed-both }

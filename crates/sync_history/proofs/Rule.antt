@@ -41,7 +41,7 @@ module _ (n : ℕ) (s : ℕ → ℕ) where
       record { counts = both.0; place = eqb-true (figures n s k).place o both.1 }
 
   -- what fails it does not
-  other-counts : (k o : ℕ) → good_at o k ≡ false → ¬ CountsAt n s o k
+  other_counts : (k o : ℕ) → good_at o k ≡ false → ¬ CountsAt n s o k
   other-counts k o e c = never (sym (rw (c.counts, eq-eqb (figures n s k).place o c.place) refl) ∙ e)
 
   -- what does not count there fails it
@@ -315,9 +315,9 @@ module _ (n : ℕ) (s : ℕ → ℕ) where
   search-tells : (k cand count : ℕ) → lock_to n s k ≡ Search cand count → Searching k cand count → RuleTells n s k
   search-tells k cand count e i = record {
     locked = λ p b. absurd (i.unlocked b.period p b.before b.falls.fourth);
-    locked-only = λ p m d. absurd (apart (sym e ∙ d));
+    locked_only = λ p m d. absurd (apart (sym e ∙ d));
     loses = λ p a. absurd (i.unlocked a.locked p (omega (arith, a.after)) a.falls.fourth);
-    loses-only = λ d. absurd (search-keeps k cand count (rw e at d));
+    loses_only = λ d. absurd (search-keeps k cand count (rw e at d));
   }
     where
       apart : {p m : ℕ} → ¬ (Search cand count ≡ Locked p m)
@@ -327,9 +327,9 @@ module _ (n : ℕ) (s : ℕ → ℕ) where
   locked-tells : (k o m : ℕ) → lock_to n s k ≡ Locked o m → Holding k o m → RuleTells n s k
   locked-tells k o m e l = record {
     locked = λ p b. (m, e ∙ ap (λ (x : ℕ). Locked x m) (same p b.period b.falls));
-    locked-only = λ p c d. subst (λ (x : ℕ). LockedBy n s x k) (place p c (sym e ∙ d)) here;
+    locked_only = λ p c d. subst (λ (x : ℕ). LockedBy n s x k) (place p c (sym e ∙ d)) here;
     loses = λ p a. rw e (locked-loses k o m l (subst (λ (x : ℕ). Eighth n s x k) (sym (same p a.locked a.falls)) a));
-    loses-only = λ d. (o, loses-eighth k o m l (rw e at d));
+    loses_only = λ d. (o, loses-eighth k o m l (rw e at d));
   }
     where
       same : (p j : ℕ) → LockIn n s p j → o ≡ p

@@ -36,16 +36,16 @@ later i = sizes (end_of 3 11 + i)
 
 -- ---- by computing
 pub record Runs : Type 0 where
-  pub third-seeks : lock_to 3 sizes 3 ≡ Search 1 3
-  pub fourth-locks : lock_to 3 sizes 4 ≡ Locked 1 0
-  pub seventh-misses : lock_to 3 sizes 11 ≡ Locked 1 7
-  pub eighth-loses : LosesIn 3 sizes 11
+  pub third_seeks : lock_to 3 sizes 3 ≡ Search 1 3
+  pub fourth_locks : lock_to 3 sizes 4 ≡ Locked 1 0
+  pub seventh_misses : lock_to 3 sizes 11 ≡ Locked 1 7
+  pub eighth_loses : LosesIn 3 sizes 11
   pub relocks : lock_to 3 later 4 ≡ Locked 2 0
 
 -- all five
 pub runs : Runs
 unfolding end_of repeated sizes later lock_to figures figures_to acc_after leak_of no_tally added_of counts_of sought_of search_of held_of rule_of lock_after if◌then◌else◌
-runs = record { third-seeks = refl; fourth-locks = refl; seventh-misses = refl; eighth-loses = refl; relocks = refl }
+runs = record { third_seeks = refl; fourth_locks = refl; seventh_misses = refl; eighth_loses = refl; relocks = refl }
 
 -- ---- so it happened
 -- the verdict is not a loss
@@ -87,16 +87,16 @@ runs_keep = (refl, refl, refl)
 -- a lock at place 1, on symbol 35
 pub lock_happens : LockOn 3 sizes 1 35
 unfolding end_of
-lock_happens = on_fourth 3 sizes 1 ((rule_tells 3 sizes 4 (keeps-all 3 sizes 4 runs_keep.0)).locked-only 1 0 runs.fourth-locks)
+lock_happens = on_fourth 3 sizes 1 ((rule_tells 3 sizes 4 (keeps-all 3 sizes 4 runs_keep.0)).locked_only 1 0 runs.fourth_locks)
 
 -- its loss, on symbol 59 at the latest
 pub loss_happens : LossBy 3 sizes 59
 unfolding end_of
 loss_happens =
-    let e = (rule_tells 3 sizes 11 (keeps-all 3 sizes 11 runs_keep.1)).loses-only runs.eighth-loses in
+    let e = (rule_tells 3 sizes 11 (keeps-all 3 sizes 11 runs_keep.1)).loses_only runs.eighth_loses in
     record { at = e.0; period = 11; by = omega arith; eighth = e.1 }
 
 -- a lock at place 2, on symbol 35 of the stretch after it
 pub relock_happens : LockOn 3 later 2 35
 unfolding end_of
-relock_happens = on_fourth 3 later 2 ((rule_tells 3 later 4 (keeps-all 3 later 4 runs_keep.2)).locked-only 2 0 runs.relocks)
+relock_happens = on_fourth 3 later 2 ((rule_tells 3 later 4 (keeps-all 3 later 4 runs_keep.2)).locked_only 2 0 runs.relocks)

@@ -40,9 +40,9 @@ pub record OneLock (n : ℕ) (s : ℕ → ℕ) : Type 0 where
 -- ---- lock and loss by periods, as functions, are lock and loss
 pub record LockFound (n : ℕ) (s : ℕ → ℕ) (k : ℕ) : Type 0 where
   pub found : (p l : ℕ) → LockIn n s p l → l < k → (lock_in n s k ≡ some l) × ((figures n s l).place ≡ p)
-  pub found-only : (l : ℕ) → lock_in n s k ≡ some l → (l < k) × LockIn n s (figures n s l).place l
+  pub found_only : (l : ℕ) → lock_in n s k ≡ some l → (l < k) × LockIn n s (figures n s l).place l
   pub eighth : (p : ℕ) → Eighth n s p k → (l : ℕ) × (lock_in n s k ≡ some l) × (eighth_at n s l k ≡ true)
-  pub eighth-only : (l : ℕ) → lock_in n s k ≡ some l → eighth_at n s l k ≡ true → Eighth n s (figures n s l).place k
+  pub eighth_only : (l : ℕ) → lock_in n s k ≡ some l → eighth_at n s l k ≡ true → Eighth n s (figures n s l).place k
 
 -- ---- the lock rule over the periods: what it records after k periods is what happened
 -- the lock after k periods of which none lost
@@ -63,9 +63,9 @@ pub record LockedBy (n : ℕ) (s : ℕ → ℕ) (p k : ℕ) : Type 0 where
 -- for as long as no period has lost
 pub record RuleTells (n : ℕ) (s : ℕ → ℕ) (k : ℕ) : Type 0 where
   pub locked : (p : ℕ) → LockedBy n s p k → (misses : ℕ) × (lock_to n s k ≡ Locked p misses)
-  pub locked-only : (p misses : ℕ) → lock_to n s k ≡ Locked p misses → LockedBy n s p k
+  pub locked_only : (p misses : ℕ) → lock_to n s k ≡ Locked p misses → LockedBy n s p k
   pub loses : (p : ℕ) → Eighth n s p k → LosesIn n s k
-  pub loses-only : LosesIn n s k → (p : ℕ) × Eighth n s p k
+  pub loses_only : LosesIn n s k → (p : ℕ) × Eighth n s p k
 
 -- ---- accumulators: how far sizes of at most m bring one, and what k periods leave of its start value
 -- at most seven eighths of it each period, rounded up
@@ -83,7 +83,7 @@ pub record AccBounds (n : ℕ) (s : ℕ → ℕ) (m : ℕ) : Type 0 where
 -- the loss by markers as a test is the loss by markers
 pub record MarkersTell (b : ℕ → Both) (i : ℕ) : Type 0 where
   pub loses : MarkerLoss b i → markers_lose b i ≡ true
-  pub loses-only : markers_lose b i ≡ true → MarkerLoss b i
+  pub loses_only : markers_lose b i ≡ true → MarkerLoss b i
 
 module _ (n start : ℕ) (kept : Record) (b : ℕ → Both) where
   -- what the step makes of reading i, and what it leaves after the first i

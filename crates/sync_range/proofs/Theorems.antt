@@ -198,11 +198,11 @@ any16_push i q acc hi hq l = record { first = hi; second = hq; both = omega arit
 
 pub any16-figures : Figures any16 1572864 3758292991 34937091644336
 unfolding most_of
-any16-figures = record { corr-is = refl; peak-is = refl; sum_is = refl }
+any16-figures = record { corr_is = refl; peak_is = refl; sum_is = refl }
 
 pub rotated_short : Short rotated
 rotated_short = record { part = omega arith; sum = omega arith }
 
 pub rotated-figures : Figures rotated 98328 3758114816 34935435329536
 unfolding most_of
-rotated-figures = record { corr-is = refl; peak-is = refl; sum_is = refl }
+rotated-figures = record { corr_is = refl; peak_is = refl; sum_is = refl }

@@ -75,6 +75,6 @@ CallsKeep = (b : Bound) (at : ℕ) (acc : List ℕ) (cs : List Call) → Short b
 
 -- ---- the figures of docs/RANGES.md, "Slot sync": correlation part, peak, sum
 pub record Figures (b : Bound) (corr peak sum : ℕ) : Type 0 where
-  pub corr-is : corr_most b ≡ corr
-  pub peak-is : most_of b ≡ peak
+  pub corr_is : corr_most b ≡ corr
+  pub peak_is : most_of b ≡ peak
   pub sum_is : 9296 * most_of b ≡ sum

@@ -48,11 +48,11 @@ lock_told n base last h m z l k =
     let t = rule-kept n base last h m z (kept-fold n base last h m z k) in
     record {
       locked = λ p b. let w = t.locked p (locked_by n (size_at h) p m z b) in (ap is_locked (e ∙ w.1), ap offset_of (e ∙ w.1));
-      locked-only =
+      locked_only =
           λ b.
           let q = (after n base last h m).sync.run.lock in
           let w = locked_is q b in
-          lock_by n (size_at h) (offset_of q) m z (t.locked-only (offset_of q) w.0 (sym e ∙ w.1));
+          lock_by n (size_at h) (offset_of q) m z (t.locked_only (offset_of q) w.0 (sym e ∙ w.1));
     }
 
 pub heads_after_lock : HeadClaim
@@ -68,7 +68,7 @@ heads_after_lock n base last h m z l k =
           by_test (reads_at n base last h (m - 23))
           (λ r.
           let w = reads-locked n base last h (m - 23) r in
-          ((m - 23) % n, lock_by n (size_at h) ((m - 23) % n) m z ((rule-kept n base last h m z g).locked-only ((m - 23) % n) w.0 w.1)))
+          ((m - 23) % n, lock_by n (size_at h) ((m - 23) % n) m z ((rule-kept n base last h m z g).locked_only ((m - 23) % n) w.0 w.1)))
           (λ r. absurd (never (sym a ∙ ap any_head (tells-late n base last h m (ltb-false m 23 t)) ∙ told_none n base last h (m - 23) r))));
     }
 
@@ -105,7 +105,7 @@ pub no_lock : NoLockClaim
 no_lock base last h m b l =
     let t = lock_told 9296 base last h m (lit≤ tt) l (kept-before base last h m (omega arith)) in
     let q = (after 9296 base last h m).sync.run.lock in
-    by_test (is_locked q) (λ e. absurd (no_lock_before (size_at h) (offset_of q) m b (t.locked-only e))) (λ e. e)
+    by_test (is_locked q) (λ e. absurd (no_lock_before (size_at h) (offset_of q) m b (t.locked_only e))) (λ e. e)
 
 pub relocks : RelockClaim
 relocks base place P Q last h pr =

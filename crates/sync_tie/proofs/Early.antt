@@ -34,7 +34,7 @@ loses_true Loses e = refl
 none_loses : (n : ℕ) (s : ℕ → ℕ) (k : ℕ) → k ≤ 11 → (j : ℕ) → j < k → ¬ LosesIn n s j
 none_loses n s zero b j l = absurd (omega arith)
 none_loses n s (suc k) b j l =
-    λ q. let w = ((rule_tells n s j (λ i g. none_loses n s k (omega arith) i (omega arith))).loses-only q).1 in omega (arith, w.after, w.falls.fourth.enough)
+    λ q. let w = ((rule_tells n s j (λ i g. none_loses n s k (omega arith) i (omega arith))).loses_only q).1 in omega (arith, w.after, w.falls.fourth.enough)
 
 module _ (n base : ℕ) (last : Record) (h : List Push) where
   none_reads : (c : ℕ) → c / n < 4 → reads_at n base last h c ≡ false
@@ -42,7 +42,7 @@ module _ (n base : ℕ) (last : Record) (h : List Push) where
       by_test (reads_at n base last h c)
       (λ r.
       let w = reads-locked n base last h c r in
-      let t = (rule_tells n (size_at h) (c / n) (none_loses n (size_at h) (c / n) (omega arith))).locked-only (c % n) w.0 w.1 in
+      let t = (rule_tells n (size_at h) (c / n) (none_loses n (size_at h) (c / n) (omega arith))).locked_only (c % n) w.0 w.1 in
       absurd (omega (arith, t.before, t.falls.fourth.enough)))
       (λ r. r)
 

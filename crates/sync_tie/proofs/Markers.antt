@@ -67,14 +67,14 @@ module _ (n base : ℕ) (last : Record) (h : List Push) (c : ℕ) (z : 0 < n) wh
         falls = lock-in k e;
         number = count_in n base last h k c;
         reading = at_place n base last h k c z f.0 f.1 w.0;
-        second = (markers-tell (both_in n base last h k) (count_in n base last h k c)).loses-only w.1;
+        second = (markers-tell (both_in n base last h k) (count_in n base last h k c)).loses_only w.1;
       }
     where
       lock-in : (k : ℕ) → lock_before n base last h c ≡ some k → LockIn n (size_at h) (place_in n base last h k) k
-      lock-in k e = unfold lock_before place_in in ((lock-found n (size_at h) (c / n)).found-only k e).1
+      lock-in k e = unfold lock_before place_in in ((lock-found n (size_at h) (c / n)).found_only k e).1
 
-  loses-only : markers_lose_at n base last h c ≡ true → LostByMarkers n h c
+  loses_only : markers_lose_at n base last h c ≡ true → LostByMarkers n h c
   loses-only m = by-lock n base last h c (λ e. absurd (never (sym m ∙ no_lock e))) (λ k e. lost-with k e m)
 
 pub markers_are : MarkersClaim
-markers_are n base last h c z = record { loses = loses n base last h c z; loses-only = loses-only n base last h c z }
+markers_are n base last h c z = record { loses = loses n base last h c z; loses_only = loses-only n base last h c z }

@@ -84,25 +84,25 @@ module _ (n base : ℕ) (last : Record) (h : List Push) where
         by_test (is_locked (lock_to n (size_at h) k))
         (λ u.
         let w = locked_is (lock_to n (size_at h) k) u in
-        let b = t.locked-only (offset_of (lock_to n (size_at h) k)) w.0 w.1 in
+        let b = t.locked_only (offset_of (lock_to n (size_at h) k)) w.0 w.1 in
         absurd (none_some (sym e ∙ ((lock-found n (size_at h) k).found (offset_of (lock_to n (size_at h) k)) b.period b.falls b.before).0)))
         (λ u. u)
 
     lock-some : (l : ℕ) → lock_in n (size_at h) k ≡ some l → (misses : ℕ) × (lock_to n (size_at h) k ≡ Locked (place_in n base last h l) misses)
     unfolding place_in
     lock-some l e =
-        let w = (lock-found n (size_at h) k).found-only l e in
+        let w = (lock-found n (size_at h) k).found_only l e in
         t.locked (figures n (size_at h) l).place (record { period = l; before = w.0; falls = w.1 })
 
     -- the period that loses
     ends_as : loses_of (rule_of n (lock_to n (size_at h) k) (figures n (size_at h) k)) ≡ true → (l : ℕ) × (lock_in n (size_at h) k ≡ some l) × (eighth_at n (size_at h) l k ≡ true)
     ends_as e =
-        let w = t.loses-only (loses_true (rule_of n (lock_to n (size_at h) k) (figures n (size_at h) k)) e) in
+        let w = t.loses_only (loses_true (rule_of n (lock_to n (size_at h) k) (figures n (size_at h) k)) e) in
         (lock-found n (size_at h) k).eighth w.0 w.1
 
     as-ends : (l : ℕ) → lock_in n (size_at h) k ≡ some l → eighth_at n (size_at h) l k ≡ true → loses_of (rule_of n (lock_to n (size_at h) k) (figures n (size_at h) k)) ≡ true
     unfolding loses_of
-    as-ends l e x = ap loses_of (t.loses (figures n (size_at h) l).place ((lock-found n (size_at h) k).eighth-only l e x))
+    as-ends l e x = ap loses_of (t.loses (figures n (size_at h) l).place ((lock-found n (size_at h) k).eighth_only l e x))
 
   -- ---- by the lock before position c
   pub by-lock : {X : Type 0} (c : ℕ) → (lock_before n base last h c ≡ none → X) → ((k : ℕ) → lock_before n base last h c ≡ some k → X) → X
@@ -242,7 +242,7 @@ module _ (n base : ℕ) (last : Record) (h : List Push) where
 
   pub lock-falls : (c k : ℕ) → lock_before n base last h c ≡ some k → (k < c / n) × (place_in n base last h k < n)
   unfolding lock_before place_in
-  lock-falls c k e = let w = (lock-found n (size_at h) (c / n)).found-only k e in (w.0, place_in_lem n (size_at h) (figures n (size_at h) k).place k w.1)
+  lock-falls c k e = let w = (lock-found n (size_at h) (c / n)).found_only k e in (w.0, place_in_lem n (size_at h) (figures n (size_at h) k).place k w.1)
 
   abbrev quiet : ℕ → Taken
   quiet c = record { lost = false; stage = (fold.heard_to n base last h c).stage; course = (fold.heard_to n base last h c).course; first = NoHead; second = NoHead }

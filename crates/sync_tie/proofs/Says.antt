@@ -75,7 +75,7 @@ module _ (n base : ℕ) (last : Record) (h : List Push) where
   eighth-found c e =
       by_first (fourth_at n (size_at h)) (c / n)
       (λ q. absurd (never (sym e ∙ rw q refl)))
-      (λ k q. ((figures n (size_at h) k).place, (lock-found n (size_at h) (c / n)).eighth-only k q (sym (rw q refl) ∙ e)))
+      (λ k q. ((figures n (size_at h) k).place, (lock-found n (size_at h) (c / n)).eighth_only k q (sym (rw q refl) ∙ e)))
 
   pub found-eighth : (c p : ℕ) → Eighth n (size_at h) p (c / n) → eighth_ends n base last h c ≡ true
   unfolding eighth_ends eighth_in lock_before

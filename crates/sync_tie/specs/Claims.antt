@@ -39,7 +39,7 @@ module _ (n base : ℕ) (last : Record) (h : List Push) where
   -- after m symbols, none of which lost, the sync is locked at p exactly if the lock fell there on one of them
   pub record LockTold (m : ℕ) : Type 0 where
     pub locked : (p : ℕ) → LockBy n (size_at h) p m → (is_locked (after m).sync.run.lock ≡ true) × (offset_of (after m).sync.run.lock ≡ p)
-    pub locked-only : is_locked (after m).sync.run.lock ≡ true → LockBy n (size_at h) (offset_of (after m).sync.run.lock) m
+    pub locked_only : is_locked (after m).sync.run.lock ≡ true → LockBy n (size_at h) (offset_of (after m).sync.run.lock) m
 
   -- "one without lock no head": a head comes only after a lock on an earlier symbol
   pub record HeadsAfterLock (m : ℕ) : Type 0 where
@@ -70,7 +70,7 @@ ReadingClaim = (n base : ℕ) (last : Record) (h : List Push) (k p j : ℕ) → 
 -- the loss by markers, as a test of a position, is the loss by markers
 pub record MarkersAre (n base : ℕ) (last : Record) (h : List Push) (c : ℕ) : Type 0 where
   pub loses : LostByMarkers n h c → markers_lose_at n base last h c ≡ true
-  pub loses-only : markers_lose_at n base last h c ≡ true → LostByMarkers n h c
+  pub loses_only : markers_lose_at n base last h c ≡ true → LostByMarkers n h c
 
 abbrev pub MarkersClaim : Type 0
 MarkersClaim = (n base : ℕ) (last : Record) (h : List Push) (c : ℕ) → 0 < n → MarkersAre n base last h c

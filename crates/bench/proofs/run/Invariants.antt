@@ -15,7 +15,7 @@ use Rattle.bench_text.proofs.Theorems.{turn_last, turn_on}
 use Rattle.bench.proofs.run.Given as goal
 
 abbrev pub invariant-loop-turns : goal.invariant-loop-turns
-invariant-loop-turns l = (l.u ≤ length l.soft) × (length l.out ≡ length l.place) × (l.ok ≡ true → led l.turns l.r (page l.i (drop l.u l.soft) l.to l.out) ≡ led l.initial.turns l.r (page l.initial.i (drop l.initial.u l.soft) l.initial.to l.place)) × (0 < l.turns → l.ok ≡ true)
+invariant-loop-turns l = (l.u ≤ length l.soft) × (length l.out ≡ length l.initial.out) × (l.ok ≡ true → led l.turns l.r (page l.i (drop l.u l.soft) l.to l.out) ≡ led l.initial.turns l.r (page l.initial.i (drop l.initial.u l.soft) l.initial.to l.initial.out)) × (0 < l.turns → l.ok ≡ true)
 
 abbrev pub decreases-loop-turns : goal.decreases-loop-turns
 decreases-loop-turns l = l.turns

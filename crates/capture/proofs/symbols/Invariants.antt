@@ -13,7 +13,7 @@ use Rattle.capture.proofs.Laws.{firsts-signed}
 use Rattle.capture.proofs.symbols.Given as goal
 
 abbrev pub invariant-loop-i : goal.invariant-loop-i
-invariant-loop-i l = (l.i ≤ l.initial.out) × (l.out ≡ firsts (byte_at l.bytes) l.i ++ drop l.i l.n)
+invariant-loop-i l = (l.i ≤ l.n) × (l.out ≡ firsts (byte_at l.bytes) l.i ++ drop l.i l.initial.out)
 
 abbrev pub decreases-loop-i : goal.decreases-loop-i
-decreases-loop-i l = l.initial.out - l.i
+decreases-loop-i l = l.n - l.i

@@ -13,7 +13,7 @@ use Rattle.eq_bench.specs.Blocks.{filtered, filtered_by}
 use Rattle.eq_bench.proofs.filter_all.Given as goal
 
 abbrev pub invariant-loop-k : goal.invariant-loop-k
-invariant-loop-k l = (l.k ≤ l.initial.out) × (filtered l.line l.out ≡ filtered_by l.rows l.m l.k (filtered l.ys l.initial.line)) × (length l.line ≡ 22) × (length l.out ≡ length l.initial.line)
+invariant-loop-k l = (l.k ≤ l.m) × (filtered l.line l.out ≡ filtered_by l.rows l.ys l.k (filtered l.initial.line l.initial.out)) × (length l.line ≡ 22) × (length l.out ≡ length l.initial.out)
 
 abbrev pub decreases-loop-k : goal.decreases-loop-k
-decreases-loop-k l = l.initial.out - l.k
+decreases-loop-k l = l.m - l.k

@@ -16,7 +16,7 @@ number c = rw (to_z-of_z c.ranges.best) at c.noise-n.ensures
 pub sampled-requires : goal.sampled-requires
 sampled-requires c =
     let k = noise_taken c.args.l c.args.best (sym (number c.before) ∙ c.if-n-eq0.true) in
-    (k.learn-ok, k.room, rw (to_z-of_z c.ranges.best) k.best-ok)
+    (k.learn_ok, k.room, rw (to_z-of_z c.ranges.best) k.best_ok)
 
 pub returns-then-n-eq0 : goal.returns-then-n-eq0
 unfolding noise_answer

@@ -14,12 +14,12 @@ taken : (c : (lts.Then1 tie.the-claims reads.Pre reads.Post)) → PilotTaken c.a
 taken c = pilot_taken _ _ _ (sym c.pilot-n.ensures ∙ c.if-n-eq0.true)
 
 pub place-requires : goal.place-requires
-place-requires c = (taken c).bits-ok
+place-requires c = (taken c).bits_ok
 
 pub piloted-requires : goal.piloted-requires
 piloted-requires c =
     let k = taken c.before in
-    (k.learn-ok, c.place.ensures.1, rw c.place.ensures.0 k.room)
+    (k.learn_ok, c.place.ensures.1, rw c.place.ensures.0 k.room)
 
 pub returns-then-n-eq0 : goal.returns-then-n-eq0
 unfolding pilot_answer

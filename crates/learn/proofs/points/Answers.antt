@@ -11,7 +11,7 @@ pub pointed-requires : goal.pointed-requires
 pointed-requires c =
     let a = c.args in
     let k = points_taken a.l a.bits (length a.learned.now) (sym c.points-n.ensures ∙ c.if-n-eq0.true) in
-    (k.learn-ok, k.bits-ok, k.long)
+    (k.learn_ok, k.bits_ok, k.long)
 
 pub returns-then-n-eq0 : goal.returns-then-n-eq0
 unfolding points_answer points_slice

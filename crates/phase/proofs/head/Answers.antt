@@ -10,7 +10,7 @@ pub due-requires : goal.due-requires
 due-requires c =
     let a = c.args in
     let t = head_taken a.s a.h (sym c.head-n.ensures ∙ c.if-n-eq0.true) in
-    (phase_ok a.s t.in-range, t.head)
+    (phase_ok a.s t.in_range, t.head)
 
 pub returns-then-n-eq0 : goal.returns-then-n-eq0
 unfolding head_answer

@@ -16,7 +16,7 @@ use Rattle.carrier.proofs.ranged.rotated.Reads as rotated-reads
 use Rattle.phase_bench.proofs.rotate_all.Given as goal
 
 abbrev pub invariant-loop-k : goal.invariant-loop-k
-invariant-loop-k l = (l.k ≤ l.initial.out) × (turned l.r l.out ≡ rotated_all l.xs l.table l.k (turned l.initial.r l.m)) × (length l.out ≡ length l.m)
+invariant-loop-k l = (l.k ≤ l.m) × (turned l.r l.out ≡ rotated_all l.xs l.table l.k (turned l.initial.r l.initial.out)) × (length l.out ≡ length l.initial.out)
 
 abbrev pub decreases-loop-k : goal.decreases-loop-k
-decreases-loop-k l = l.initial.out - l.k
+decreases-loop-k l = l.m - l.k

@@ -12,7 +12,7 @@ pub accepted-requires : goal.accepted-requires
 accepted-requires c =
     let a = c.args in
     let t = taking (length a.acc.now) a.t4 a.t5 a.s.run (sym c.push_refusal-n.ensures ∙ c.if-n-eq0.true) in
-    (t.ready, t.ones-f, t.ones-w, t.long)
+    (t.ready, t.ones_f, t.ones_w, t.long)
 
 pub returns-then-n-eq0 : goal.returns-then-n-eq0
 unfolding push_answer push_acc

@@ -13,7 +13,7 @@ use Rattle.demap.proofs.Stage.{Stage, stage_start, stage_skip, stage_size, stage
 use Rattle.demap.proofs.levels.all_levels.Given as goal
 
 abbrev pub invariant-loop-b : goal.invariant-loop-b
-invariant-loop-b l = (l.b ≤ 5) × Stage (entry l.bits) l.k l.initial.m l.initial.out l.b l.m l.out
+invariant-loop-b l = (l.b ≤ 5) × Stage (entry l.initial.m) l.bits l.k l.initial.out l.b l.m l.out
 
 abbrev pub decreases-loop-b : goal.decreases-loop-b
 decreases-loop-b l = l.b

@@ -18,9 +18,9 @@ use Rattle.demap.proofs.Tables.{entry_rest}
 use Rattle.demap.proofs.levels.level.Given as goal
 
 abbrev pub invariant-loop-t : goal.invariant-loop-t
-invariant-loop-t l = (l.t ≤ l.k) × (l.m ≡ firsts (fold (entry l.half) l.k) l.t ++ drop l.t l.half)
-    × (to_z w64 l.a ≡ least_of every (entry l.half) (entry l.half 0) l.t)
-    × (to_z w64 l.b ≡ least_of every (λ (l : ℕ). entry l.half (l.k + l)) (entry l.half l.k) l.t)
+invariant-loop-t l = (l.t ≤ l.half) × (l.m ≡ firsts (fold (entry l.initial.m) l.half) l.t ++ drop l.t l.initial.m)
+    × (to_z w64 l.a ≡ least_of every (entry l.initial.m) (entry l.initial.m 0) l.t)
+    × (to_z w64 l.b ≡ least_of every (λ (l : ℕ). entry l.initial.m (l.half + l)) (entry l.initial.m l.half) l.t)
 
 abbrev pub decreases-loop-t : goal.decreases-loop-t
-decreases-loop-t l = l.k - l.t
+decreases-loop-t l = l.half - l.t

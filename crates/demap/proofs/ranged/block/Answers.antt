@@ -12,6 +12,9 @@ use mir.Syntax.{w16, w64}
 use mir.Val.{SFits, to_z, of_z}
 use Rattle.demap.specs.Demap.{symbol_metric, block_bits}
 use Rattle.demap.proofs.Blocks.{turn, upto, whole, part_long, length_so_far, block_step}
+use Rattle.demap.proofs.ranged.block.Lts as lts
+use Rattle.demap.proofs.ranged.block.Tie as tie
+use Rattle.demap.proofs.ranged.block.Reads as reads
 use Rattle.demap.proofs.ranged.block.Goals as goal
 
 pub loop-s-init : goal.loop-s-init
@@ -19,11 +22,10 @@ unfolding block_bits
 loop-s-init c = (omega arith, rw (zero-mul c.args.bits))
 
 -- the symbol has its place in the buffer
-module _ (c : tie.In-loop invariant-loop-s decreases-loop-s) where
-  place : c.before.loop.s * c.before.before.args.bits + c.before.before.args.bits ≤ length c.before.before.args.out.now
+module _ (c : (lts.In-loop tie.the-claims reads.Pre reads.Post goal.the-invariant-loop-s goal.the-decreases-loop-s)) where
+  place : c.loop-s.s * c.args.bits + c.args.bits ≤ length c.args.out.now
   place =
-      let S = c.before.before in
-      turn c.before.loop.s (length S.args.sy.now / 2) S.args.bits (length S.args.out.now) (omega arith) S.requires.4
+      turn c.loop-s.s (length c.args.sy.now / 2) c.args.bits (length c.args.out.now) (omega arith) c.requires.4
 
   room : c.before.loop.s * c.before.before.args.bits + c.before.before.args.bits ≤ length c.before.loop.out
   room =
@@ -64,7 +66,7 @@ loop-s-preserved c =
     let g = rw (to_z-of_z k1, to_z-of_z k2, whole (L.s * B) B) at c.one.ensures in (
       omega arith,
       rw (whole (L.s * B) B)
-          (block_step Y c.args.points.now B (to_z w64 (of_z w64 c.args.k)) L.s c.args.out.now L.out _ (place c) L.invariant.1 g.1),
+          (block_step Y c.args.points.now B (to_z w64 (of_z w64 c.args.k)) L.s c.args.out.now L.out _ (place c.before.before.before.before.before) L.invariant.1 g.1),
     )
 
 pub shape_of-out : goal.shape_of-out

@@ -14,7 +14,7 @@ use Rattle.demap.proofs.Blocks.{turn, upto, whole, part_long, length_so_far, blo
 use Rattle.demap.proofs.ranged.block.Given as goal
 
 abbrev pub invariant-loop-s : goal.invariant-loop-s
-invariant-loop-s l = (l.s ≤ l.initial.out) × (l.out ≡ block_bits l.sy l.points l.bits l.k l.s ++ drop (l.s * l.bits) l.n)
+invariant-loop-s l = (l.s ≤ l.n) × (l.out ≡ block_bits l.sy l.points l.bits l.k l.s ++ drop (l.s * l.bits) l.initial.out)
 
 abbrev pub decreases-loop-s : goal.decreases-loop-s
-decreases-loop-s l = l.initial.out - l.s
+decreases-loop-s l = l.n - l.s

@@ -17,8 +17,8 @@ use Rattle.demap.proofs.table.all_metrics.Given as goal
 
 -- a label below both 2^b and 2^bits is there: a turn that does nothing needs no case
 abbrev pub invariant-loop-b : goal.invariant-loop-b
-invariant-loop-b l = let f = label_by_twice l.tq l.initial.m l.bits in
-    (l.b ≤ 5) × (length l.m ≡ 32) × ((l : ℕ) → l < 2 ^ l.b → l < 2 ^ l.ti → (entry l.m l ≡ f l) × Small (f l))
+invariant-loop-b l = let f = label_by_twice l.ti l.tq l.points in
+    (l.b ≤ 5) × (length l.m ≡ 32) × ((l : ℕ) → l < 2 ^ l.b → l < 2 ^ l.bits → (entry l.m l ≡ f l) × Small (f l))
 
 abbrev pub decreases-loop-b : goal.decreases-loop-b
 decreases-loop-b l = 5 - l.b

@@ -6,6 +6,8 @@ use mir.Syntax.{w16, w64}
 use mir.Val.{SFits, to_z, of_z}
 use Rattle.laws.proofs.Size.{Num, fits, at, arg, arg_le, plus, less, times}
 use Rattle.demap.specs.Folds.{by_twice}
+use Rattle.demap.proofs.table.by_twice.Lts as lts
+use Rattle.demap.proofs.table.by_twice.Reads as reads
 use Rattle.demap.proofs.table.by_twice.Goals as goal
 
 abbrev m : ℤ → ℤ
@@ -25,7 +27,7 @@ axis h k b = times (wide h) (at w64 (rest h k b) tt)
 abbrev term : ℤ → ℤ → ℤ
 term p t = m (m (to_z w16 (of_z w16 p)) *ℤ m (m (to_z w16 (of_z w16 p)) -ℤ m t))
 
-module _ (c : tie.Start) where
+module _ (c : (lts.Start reads.Pre reads.Post)) where
   sum : Num (term c.args.pi c.args.ti +ℤ term c.args.pq c.args.tq) (c.args.pi *ℤ (c.args.pi -ℤ c.args.ti) +ℤ c.args.pq *ℤ (c.args.pq -ℤ c.args.tq)) 6442450944
   sum = plus (at w64 (axis c.ranges.pi c.ranges.ti c.requires.0) tt) (at w64 (axis c.ranges.pq c.ranges.tq c.requires.1) tt)
 

@@ -13,7 +13,7 @@ use Rattle.demap.proofs.Tables.{holds_more}
 use Rattle.demap.proofs.table.more_metrics.Given as goal
 
 abbrev pub invariant-loop-i : goal.invariant-loop-i
-invariant-loop-i l = (l.i ≤ l.initial.m) × (length l.m ≡ 32) × Holds (label_by_twice l.tq l.a l.ti) l.i l.m
+invariant-loop-i l = (l.i ≤ l.n) × (length l.m ≡ 32) × Holds (label_by_twice l.ti l.tq l.points) l.i l.m
 
 abbrev pub decreases-loop-i : goal.decreases-loop-i
-decreases-loop-i l = l.initial.m - l.i
+decreases-loop-i l = l.n - l.i

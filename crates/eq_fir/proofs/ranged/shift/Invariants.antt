@@ -14,7 +14,7 @@ use native.Mathlib.Omega.{arith}
 use Rattle.eq_fir.proofs.ranged.shift.Given as goal
 
 abbrev pub invariant-loop-k : goal.invariant-loop-k
-invariant-loop-k l = (1 ≤ l.k) × (l.k ≤ 21) × (l.line ≡ take (suc l.k) l.i ++ drop (l.k - 1) (take 20 l.i))
+invariant-loop-k l = (1 ≤ l.k) × (l.k ≤ 21) × (l.line ≡ take (suc l.k) l.initial.line ++ drop (l.k - 1) (take 20 l.initial.line))
 
 abbrev pub decreases-loop-k : goal.decreases-loop-k
 decreases-loop-k l = l.k

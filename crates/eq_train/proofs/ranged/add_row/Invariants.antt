@@ -15,7 +15,7 @@ use Rattle.eq_train.proofs.Adding.{row_length, room_later, row_turn, row_done, r
 use Rattle.eq_train.proofs.ranged.add_row.Given as goal
 
 abbrev pub invariant-loop-c : goal.invariant-loop-c
-invariant-loop-c l = (l.c ≤ 11) × (l.k + 2 * (11 - l.c) ≤ 132) × (Room l.s l.k 132) × (added_from l.s l.k (row_products l.r l.at l.c (11 - l.c)) ≡ added_from l.line l.ar (row_products l.r l.at l.at (11 - l.at)))
+invariant-loop-c l = (l.c ≤ 11) × (l.k + 2 * (11 - l.c) ≤ 132) × (Room l.s l.k 132) × (added_from l.s l.k (row_products l.line l.r l.c (11 - l.c)) ≡ added_from l.initial.s l.at (row_products l.line l.r l.r (11 - l.r)))
 
 abbrev pub decreases-loop-c : goal.decreases-loop-c
 decreases-loop-c l = 11 - l.c

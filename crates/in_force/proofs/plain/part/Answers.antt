@@ -27,13 +27,13 @@ ok : (c : (lts.Else1 tie.the-claims reads.Pre reads.Post)) → SetsTaken (length
 ok c = sets_taken _ _ _ (number c)
 
 pub labels-n-requires : goal.labels-n-requires
-labels-n-requires c = (ok c).bits-ok
+labels-n-requires c = (ok c).bits_ok
 
 pub overflow_sub-bits : goal.overflow_sub-bits
-overflow_sub-bits c = (ok c.before).bits-ok.some
+overflow_sub-bits c = (ok c.before).bits_ok.some
 
 pub bounds-flags-bits : goal.bounds-flags-bits
-bounds-flags-bits c = omega (arith, (ok c.before).bits-ok)
+bounds-flags-bits c = omega (arith, (ok c.before).bits_ok)
 
 pub returns-then-flags-bits : goal.returns-then-flags-bits
 returns-then-flags-bits c =

@@ -14,7 +14,7 @@ use Rattle.learn.specs.Learning.{sum_at, mean_at}
 use Rattle.learn.proofs.means.write.Given as goal
 
 abbrev pub invariant-loop-i : goal.invariant-loop-i
-invariant-loop-i l = (l.i ≤ length l.n) × (l.out ≡ firsts (λ (j : ℕ). mean_at l.sum l.count (l.s + j)) l.i ++ drop l.i l.n)
+invariant-loop-i l = (l.i ≤ length l.initial.out) × (l.out ≡ firsts (λ (j : ℕ). mean_at l.sum l.count (l.s + j)) l.i ++ drop l.i l.initial.out)
 
 abbrev pub decreases-loop-i : goal.decreases-loop-i
-decreases-loop-i l = length l.n - l.i
+decreases-loop-i l = length l.initial.out - l.i

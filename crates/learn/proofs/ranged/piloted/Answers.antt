@@ -7,6 +7,8 @@ use mir.Syntax.{w16, w64}
 use mir.Val.{SFits, to_z, of_z}
 use Rattle.laws.proofs.Size.{Num, arg, at, fits, num, plus, back}
 use Rattle.learn.specs.Learning.{sum_at, piloted_at}
+use Rattle.learn.proofs.ranged.piloted.Lts as lts
+use Rattle.learn.proofs.ranged.piloted.Reads as reads
 use Rattle.learn.proofs.ranged.piloted.Goals as goal
 
 -- a sum with one more 16-bit number
@@ -14,7 +16,7 @@ more : (s z : ℤ) → nat_abs s ≤ 2 ^ 41 → SFits w16 z → Num (to_z w64 (o
 more s z h k = plus (at w64 (num s (2 ^ 41) h) tt) (at w64 (arg k) tt)
 
 -- the two new sums
-module _ (S : tie.Start) where
+module _ (S : (lts.Start reads.Pre reads.Post)) where
   more-i : Num (to_z w64 (of_z w64 (sum_at S.args.l.sum (2 * S.args.a))) +ℤ to_z w64 (of_z w64 (to_z w16 (of_z w16 S.args.zi))))
       (sum_at S.args.l.sum (2 * S.args.a) +ℤ S.args.zi) (2 ^ 41 + 2 ^ 15)
   more-i = more (sum_at S.args.l.sum (2 * S.args.a)) S.args.zi (S.requires.0.sums (2 * S.args.a) (omega arith)) S.ranges.zi
@@ -39,4 +41,4 @@ pub returns : goal.returns
 unfolding piloted_at
 returns c =
     let l = c.args.l in
-    rw ((at w64 (more-i c) tt).is, (at w64 (more-q c) tt).is, back w64 l.noise c.struct_told-1.given.1.1.0.1)
+    rw ((at w64 (more-i c.before.before.before.before.before) tt).is, (at w64 (more-q c) tt).is, back w64 l.noise c.struct_told-1.given.1.1.0.1)

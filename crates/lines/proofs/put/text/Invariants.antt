@@ -9,7 +9,7 @@ use Rattle.lines.proofs.Laws.{copied}
 use Rattle.lines.proofs.put.text.Given as goal
 
 abbrev pub invariant-loop-i : goal.invariant-loop-i
-invariant-loop-i l = (l.i ≤ length l.initial.out) × (l.out ≡ paste l.at l.t l.initial.out l.i) × (l.to ≡ l.t + l.i)
+invariant-loop-i l = (l.i ≤ length l.t) × (l.out ≡ paste l.initial.out l.at l.t l.i) × (l.to ≡ l.at + l.i)
 
 abbrev pub decreases-loop-i : goal.decreases-loop-i
-decreases-loop-i l = length l.initial.out - l.i
+decreases-loop-i l = length l.t - l.i

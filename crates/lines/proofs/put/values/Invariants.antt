@@ -13,7 +13,7 @@ use Rattle.lines.proofs.Laws.{then, nothing, values_none, values_more}
 use Rattle.lines.proofs.put.values.Given as goal
 
 abbrev pub invariant-loop-i : goal.invariant-loop-i
-invariant-loop-i l = (l.i ≤ length l.initial.out) × Wrote l.at l.v (values_to l.initial.out l.i) l.out l.to × (l.to ≤ l.v + 22 * l.i)
+invariant-loop-i l = (l.i ≤ length l.v) × Wrote l.initial.out l.at (values_to l.v l.i) l.out l.to × (l.to ≤ l.at + 22 * l.i)
 
 abbrev pub decreases-loop-i : goal.decreases-loop-i
-decreases-loop-i l = length l.initial.out - l.i
+decreases-loop-i l = length l.v - l.i

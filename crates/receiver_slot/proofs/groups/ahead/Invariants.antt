@@ -12,7 +12,7 @@ use Rattle.receiver_slot.proofs.Ahead.{ahead-start, ahead-turn}
 use Rattle.receiver_slot.proofs.groups.ahead.Given as goal
 
 abbrev pub invariant-loop-t : goal.invariant-loop-t
-invariant-loop-t l = (l.t ≤ l.table) × (l.l ≡ take (280 - 2 * l.t) l.w ++ ahead_on l.n l.t (drop 280 l.w) l.k l.store l.initial.l) × (length l.l ≡ 304)
+invariant-loop-t l = (l.t ≤ l.n) × (l.l ≡ take (280 - 2 * l.t) l.initial.l ++ ahead_on l.k l.t (drop 280 l.initial.l) l.w l.table l.store) × (length l.l ≡ 304)
 
 abbrev pub decreases-loop-t : goal.decreases-loop-t
-decreases-loop-t l = l.table - l.t
+decreases-loop-t l = l.n - l.t

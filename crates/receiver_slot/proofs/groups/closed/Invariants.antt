@@ -12,7 +12,7 @@ use Rattle.receiver_slot.proofs.Ahead.{closed_is, copy_turn}
 use Rattle.receiver_slot.proofs.groups.closed.Given as goal
 
 abbrev pub invariant-loop-k : goal.invariant-loop-k
-invariant-loop-k l = (l.k ≤ 22) × (l.line ≡ paste l.l 0 (drop l.initial.line l.e) l.k) × (length l.line ≡ 22)
+invariant-loop-k l = (l.k ≤ 22) × (l.line ≡ paste l.initial.line 0 (drop l.e l.l) l.k) × (length l.line ≡ 22)
 
 abbrev pub decreases-loop-k : goal.decreases-loop-k
 decreases-loop-k l = 22 - l.k

@@ -25,10 +25,10 @@ buffer : (c : (lts.After-ahead tie.the-claims reads.Pre reads.Post)) →
 buffer c =
     let a = c.args in
     let o = c.opened-l in
-    filled a.k a.n a.line.now o.result c.ahead.new.0 a.w a.table.now a.store.now c.requires.few c.requires.line-long o.ensures.0 o.ensures.1 c.ahead.ensures
+    filled a.k a.n a.line.now o.result c.ahead.new.0 a.w a.table.now a.store.now c.requires.few c.requires.line_long o.ensures.0 o.ensures.1 c.ahead.ensures
 
 pub closed-requires : goal.closed-requires
-closed-requires c = let h = c.requires in (h.line-long, (buffer c.before.before).long, omega arith)
+closed-requires c = let h = c.requires in (h.line_long, (buffer c.before.before).long, omega arith)
 
 pub outputs-requires : goal.outputs-requires
 outputs-requires c =

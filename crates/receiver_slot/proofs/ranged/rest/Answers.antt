@@ -66,4 +66,4 @@ returns c =
     let d : Done a.p a.rows.now a.line.now a.w a.table.now a.store.now 9132 a.place L.o L.line L.soft a.soft.now = rw e at L.invariant.1 in
     let q = c.group in
     let f = group-done c.requires d 135 135 _ _ _ (last_run a.p) (lit≤ tt) q.ensures.0 q.ensures.1 q.ensures.3 in
-    (f.line-is, f.soft-is)
+    (f.line_is, f.soft_is)

@@ -8,7 +8,7 @@ use borrow.Author.Rules.{rules}
 use Rattle.receiver_slot.proofs.ranged.rest.Given as goal
 
 abbrev pub invariant-loop-g : goal.invariant-loop-g
-invariant-loop-g l = (l.g ≤ 66) × Done l.place l.w l.rows l.p l.store l.initial.line (start_of l.g) l.table l.o l.line l.soft l.initial.soft × (length l.z ≡ 272)
+invariant-loop-g l = (l.g ≤ 66) × Done l.p l.rows l.initial.line l.w l.table l.store (start_of l.g) l.place l.o l.line l.soft l.initial.soft × (length l.z ≡ 272)
 
 abbrev pub decreases-loop-g : goal.decreases-loop-g
 decreases-loop-g l = 66 - l.g

@@ -6,7 +6,7 @@ use Rattle.solve_step.specs.Eliminate.{row_from}
 use Rattle.solve_step.proofs.rows.update_row.Given as goal
 
 abbrev pub invariant-loop-k : goal.invariant-loop-k
-invariant-loop-k l = (l.k ≤ 11) × (row_from l.a l.r l.f l.initial.a l.k (11 - l.k) ≡ row_from l.c l.r l.f l.initial.a l.r (11 - l.r))
+invariant-loop-k l = (l.k ≤ 11) × (row_from l.a l.c l.r l.f l.k (11 - l.k) ≡ row_from l.initial.a l.c l.r l.f l.c (11 - l.c))
 
 abbrev pub decreases-loop-k : goal.decreases-loop-k
 decreases-loop-k l = 11 - l.k
