@@ -6,7 +6,7 @@ set -eu
 need_rust
 need_port
 for bench in sync_bench phase_bench demap_bench eq_bench receiver_bench; do
-    [ -f "$port/lib$bench.a" ] || { echo "$0: no lib$bench.a in $port: run 'rt staticlib $bench' first" >&2; exit 1; }
+    [ -f "$port/lib$bench.a" ] || { echo "$0: no lib$bench.a in $port: run 'tools/build $bench' first" >&2; exit 1; }
 done
 out=$root/target/compare
 mkdir -p "$out/fast"

@@ -6,7 +6,7 @@ set -eu -o pipefail
 . "$(dirname "$0")/common.sh"
 need_rust
 need_port
-[ -x "$bench_program" ] || { echo "$0: no $bench_program: run 'rt check bench' first" >&2; exit 1; }
+[ -x "$bench_program" ] || { echo "$0: no $bench_program: run 'tools/build bench' first" >&2; exit 1; }
 [ -x /usr/bin/time ] || { echo "$0: no /usr/bin/time (Debian's package time)" >&2; exit 1; }
 out=$root/target/compare
 mkdir -p "$out/fast"

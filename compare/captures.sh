@@ -4,7 +4,7 @@
 # were written down, from document 01 or, of the samples, from the Rust before; the end says how many that leaves out.
 set -eu -o pipefail
 . "$(dirname "$0")/common.sh"
-[ -x "$bench_program" ] || { echo "$0: no $bench_program: run 'rt check bench' first" >&2; exit 1; }
+[ -x "$bench_program" ] || { echo "$0: no $bench_program: run 'tools/build bench' first" >&2; exit 1; }
 lines=$root/target/compare/lines
 if have_rust; then
     [ -x "$lines" ] || "$here/build.sh"

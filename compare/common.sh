@@ -58,7 +58,7 @@ need_rust() {
 # Ends the script where the port's archive has not been made.
 need_port() {
     [ -f "$port/libc_api.a" ] && return
-    echo "$0: no libc_api.a in $port: run 'rt staticlib c_api' first" >&2
+    echo "$0: no libc_api.a in $port: run 'tools/build c_api_c' first" >&2
     exit 1
 }
 
@@ -67,7 +67,7 @@ need_replay() {
     local program
     for program in "$sync_replay" "$phase_replay" "$demap_replay" "$eq_replay" "$frame_replay" "$receiver_replay"; do
         [ -x "$program" ] && continue
-        echo "$0: no $program: run 'rt check $(basename "$program")' first" >&2
+        echo "$0: no $program: run 'tools/build $(basename "$program")' first" >&2
         exit 1
     done
 }
