@@ -1,9 +1,7 @@
 -- `sync_corr::plain::rows` meets its contract: after j turns the first j entries stand. Assumes nothing.
 use mathlib.Core.Path.{◌≡◌, refl, ◌∙◌}
-use Prim.Native.Nat.{◌-◌, ◌≤◌}
 use native.Mathlib.Numerals.{add-one}
 use native.Mathlib.Omega.{arith}
-use borrow.Author.Rules.{rules}
 use mir.Syntax.{w16}
 use Rattle.laws.proofs.Size.{back}
 use Rattle.sync_corr.specs.Rows.{rows_to, rows_of}

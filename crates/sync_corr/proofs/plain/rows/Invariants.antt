@@ -1,11 +1,6 @@
-use mathlib.Core.Path.{◌≡◌, refl, ◌∙◌}
+use mathlib.Core.Path.{◌≡◌}
 use Prim.Native.Nat.{◌-◌, ◌≤◌}
-use native.Mathlib.Numerals.{add-one}
-use native.Mathlib.Omega.{arith}
-use borrow.Author.Rules.{rules}
-use mir.Syntax.{w16}
-use Rattle.laws.proofs.Size.{back}
-use Rattle.sync_corr.specs.Rows.{rows_to, rows_of}
+use Rattle.sync_corr.specs.Rows.{rows_to}
 use Rattle.sync_corr.proofs.plain.rows.Given as goal
 
 abbrev pub invariant-loop-j : goal.invariant-loop-j

@@ -1,5 +1,4 @@
 -- `sync_corr::rows::plain` meets its contract: an entry of a word fits 16 bits. Assumes nothing.
-use borrow.Author.Rules.{rules}
 use lib.IntN.{pos}
 use lib.ListN.{get_or}
 use mir.Syntax.{w8, w16}

@@ -1,5 +1,4 @@
 -- `sync_corr::rows::row_at` meets its contract. Assumes nothing.
-use borrow.Author.Rules.{rules}
 use mir.Syntax.{w16}
 use Rattle.laws.proofs.Size.{back}
 use Rattle.laws.specs.Choice.{cases}

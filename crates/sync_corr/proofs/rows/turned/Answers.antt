@@ -1,5 +1,4 @@
 -- `sync_corr::rows::turned` meets its contract: the entry fits 16 bits, and so does its negation. Assumes nothing.
-use borrow.Author.Rules.{rules}
 use Prim.Native.Nat.{◌+◌, ◌-◌}
 use lib.IntN.{pos, +ℤ_idl}
 use lib.ListN.{get_or}
