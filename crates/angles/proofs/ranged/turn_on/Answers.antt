@@ -1,5 +1,5 @@
 -- `angles::ranged::turn_on` meets its contract. Assumes nothing.
-use Rattle.std.proofs.Common.{ℕ, ◌+◌, ◌^◌, ◌<◌, ◌≤◌, ℤ, pos, ◌+ℤ◌, nat_abs, mod-lt, arith, lit<, w64, to_z, of_z, rules}
+use Rattle.std.proofs.Common.{ℕ, ◌+◌, ◌^◌, ◌<◌, ◌≤◌, ℤ, pos, ◌+ℤ◌, nat_abs, mod-lt, arith, lit<, w64, to_z, of_z}
 use mir.Facts.{to_z_pos}
 use Rattle.laws.proofs.Size.{Num, arg_le, plus, lit, at, fits, sfits_abs}
 use Rattle.angles.proofs.Laws.{turn_sum, turn_rest}
