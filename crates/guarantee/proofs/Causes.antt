@@ -57,7 +57,7 @@ module _ (base : ℕ) (last : Record) (g : List Push) (m : ℕ) where
   -- the end of an eighth other period in a row
   eighth_loses : (p j : ℕ) → Eighth 9296 (size_at g) p j → suc m ≡ end_of 9296 j → loses_at 9296 base last g (m - 23) ≡ true
   unfolding loses_at ends_at end_of
-  eighth-loses p j x e =
+  eighth_loses p j x e =
       let q : (m - 23) / 9296 ≡ j = omega (arith, e) in
       let n : (m - 23) % 9296 ≡ 9295 = omega (arith, e) in
       let v = found-eighth 9296 base last g (m - 23) p (subst (Eighth 9296 (size_at g) p) (sym q) x) in
@@ -121,7 +121,7 @@ module _ (s : System) (h : History) (t : Tied s h) where
   pub eighth-lost : (c : Call) → length (stretch_with h c) ≡ suc (length h.pushes) → (p j : ℕ) → Eighth 9296 (size_at (stretch_with h c)) p j → length (stretch_with h c) ≡ end_of 9296 j → loses_by h c ≡ true
   eighth-lost c n p j x e =
       let d = sym n ∙ e in
-      loses-here c n (ends-late j d) (eighth-loses h.base h.last (stretch_with h c) (length h.pushes) p j x d)
+      loses-here c n (ends-late j d) (eighth_loses h.base h.last (stretch_with h c) (length h.pushes) p j x d)
     where
       ends-late : (j : ℕ) → suc (length h.pushes) ≡ end_of 9296 j → 23 ≤ length h.pushes
       ends-late j e = unfold end_of in omega (arith, e)

@@ -144,7 +144,7 @@ module _ (s : System) (h : History) (t : Tied s h) where
 
   like_new : (c : Call) → CallFits c → (rest : List Call) → loses_by h c ≡ true → (store : List ℤ) → length store ≡ 18592 →
       told_all (after_call s c) rest ≡ told_all (begins (next_in h + 1) (kept_after h c) store) rest
-  like-new c f rest e store k =
+  like_new c f rest e store k =
       let w = lost-begins c f e in
       ap (λ (y : System). told_all y rest) w.2 ∙ same-all _ _ rest (begins-same (next_in h + 1) (kept_after h c) w.0 store w.1 k)
 
@@ -176,5 +176,5 @@ module _ (s : System) (h : History) (t : Tied s h) where
         kinds = causes s h t c;
         markers = markers-lost s h t c;
         eighth = eighth-lost s h t c;
-        like_new = like-new c f rest;
+        like_new = like_new c f rest;
       }

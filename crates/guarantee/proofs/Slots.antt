@@ -97,7 +97,7 @@ module _ (r : Receiver) (x : Input) (l : Lent) (c : CoherentReceiver r) where
   same_back e = rw e
 
   no_sums : (heads 9296 r x l).due ≡ NoSlot → Sums r x l 0
-  no-sums e =
+  no_sums e =
       let d = none-due r x l c e in
       let b = same_back d.0 in
       record {
@@ -121,7 +121,7 @@ module _ (r : Receiver) (x : Input) (l : Lent) (c : CoherentReceiver r) where
 
   quiet-sums : (k : ℕ) → any_head es ≡ false → Sums r x l (trainings_by k (any_head es))
   unfolding trainings_by if◌then◌else◌
-  quiet-sums k e = rw e (no-sums (none-heads e).1)
+  quiet-sums k e = rw e (no_sums (none-heads e).1)
 
   quiet-slots : (k : ℕ) → any_head es ≡ false → Slots k r.front.phase r.back → Slots (k + (if any_head es then 1 else 0)) (left 9296 r x l).front.phase (left 9296 r x l).back
   unfolding if◌then◌else◌
@@ -203,7 +203,7 @@ module _ (r : Receiver) (x : Input) (l : Lent) (c : CoherentReceiver r) where
     unfolding trainings_by if◌then◌else◌
     head-sums =
         by_test (eqb k 0)
-        (λ i. rw (a, i) (no-sums (first-due a (s.idle (eqb-true k 0 i)))))
+        (λ i. rw (a, i) (no_sums (first-due a (s.idle (eqb-true k 0 i)))))
         (λ i.
         let z : 1 ≤ k = omega (arith, eqb-false k 0 i) in
         let d = later-due a t (s.held z) in

@@ -92,7 +92,7 @@ module _ (n : ℕ) (s : ℕ → ℕ) where
   found k p l f h = (first_found (fourth_at n s) k l (lock-first p l f) h, (true-fourth p l f.fourth).1)
 
   found_only : (k l : ℕ) → lock_in n s k ≡ some l → (l < k) × LockIn n s (figures n s l).place l
-  found-only k l e = let w = first-is (fourth_at n s) k l e in (w.0, first-lock l w.1)
+  found_only k l e = let w = first-is (fourth_at n s) k l e in (w.0, first-lock l w.1)
 
   eighth : (k p : ℕ) → Eighth n s p k → (l : ℕ) × (lock_in n s k ≡ some l) × (eighth_at n s l k ≡ true)
   unfolding eighth_at
@@ -102,10 +102,10 @@ module _ (n : ℕ) (s : ℕ → ℕ) where
 
   eighth_only : (k l : ℕ) → lock_in n s k ≡ some l → eighth_at n s l k ≡ true → Eighth n s (figures n s l).place k
   unfolding eighth_at
-  eighth-only k l e x =
-      let w = found-only k l e in
+  eighth_only k l e x =
+      let w = found_only k l e in
       let u = and_both (leb (l + 8) k) (others_to n s (figures n s l).place k 8) x in
       record { locked = l; falls = w.1; after = leb-true (l + 8) k u.0; others = others-all (figures n s l).place k 8 u.1 }
 
   pub lock-found : (k : ℕ) → LockFound n s k
-  lock-found k = record { found = found k; found_only = found-only k; eighth = eighth k; eighth_only = eighth-only k }
+  lock-found k = record { found = found k; found_only = found_only k; eighth = eighth k; eighth_only = eighth_only k }

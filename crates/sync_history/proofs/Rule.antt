@@ -42,7 +42,7 @@ module _ (n : ℕ) (s : ℕ → ℕ) where
 
   -- what fails it does not
   other_counts : (k o : ℕ) → good_at o k ≡ false → ¬ CountsAt n s o k
-  other-counts k o e c = never (sym (rw (c.counts, eq-eqb (figures n s k).place o c.place) refl) ∙ e)
+  other_counts k o e c = never (sym (rw (c.counts, eq-eqb (figures n s k).place o c.place) refl) ∙ e)
 
   -- what does not count there fails it
   other-good : (k o : ℕ) → ¬ CountsAt n s o k → good_at o k ≡ false
@@ -249,7 +249,7 @@ module _ (n : ℕ) (s : ℕ → ℕ) where
   locked-step k o m l =
       if_either Kept (good_at o k) _ _
       (λ e kept. holds k o m l (good-counts k o e))
-      (λ e. if_either Kept (ltb m 7) _ _ (λ t kept. misses k o m l (other-counts k o e) (ltb-true m 7 t)) (λ t kept. absurd (kept refl)))
+      (λ e. if_either Kept (ltb m 7) _ _ (λ t kept. misses k o m l (other_counts k o e) (ltb-true m 7 t)) (λ t kept. absurd (kept refl)))
     where
       Kept : Verdict → Type 0
       Kept v = ¬ (v ≡ Loses) → Means (suc k) (lock_after v)
@@ -303,7 +303,7 @@ module _ (n : ℕ) (s : ℕ → ℕ) where
   loses-eighth k o m l =
       if_either Told (good_at o k) _ _
       (λ e d. absurd (holds-keeps d))
-      (λ e. if_either Told (ltb m 7) _ _ (λ t d. absurd (holds-keeps d)) (λ t d. eighth k o m l (other-counts k o e) (ltb-false m 7 t)))
+      (λ e. if_either Told (ltb m 7) _ _ (λ t d. absurd (holds-keeps d)) (λ t d. eighth k o m l (other_counts k o e) (ltb-false m 7 t)))
     where
       Told : Verdict → Type 0
       Told v = v ≡ Loses → Eighth n s o k

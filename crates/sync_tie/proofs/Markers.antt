@@ -74,7 +74,7 @@ module _ (n base : ℕ) (last : Record) (h : List Push) (c : ℕ) (z : 0 < n) wh
       lock-in k e = unfold lock_before place_in in ((lock-found n (size_at h) (c / n)).found_only k e).1
 
   loses_only : markers_lose_at n base last h c ≡ true → LostByMarkers n h c
-  loses-only m = by-lock n base last h c (λ e. absurd (never (sym m ∙ no_lock e))) (λ k e. lost-with k e m)
+  loses_only m = by-lock n base last h c (λ e. absurd (never (sym m ∙ no_lock e))) (λ k e. lost-with k e m)
 
 pub markers_are : MarkersClaim
-markers_are n base last h c z = record { loses = loses n base last h c z; loses_only = loses-only n base last h c z }
+markers_are n base last h c z = record { loses = loses n base last h c z; loses_only = loses_only n base last h c z }
