@@ -245,7 +245,7 @@ impl Player {
             let soft = if told.corrected.is_empty() { &[][..] } else { &self.soft[..] };
             let [tail, body] = &told.runs;
             let runs = if told.runs == <[Run; 2]>::default() {
-                "noRuns".into()
+                "no_runs".into()
             } else {
                 format!("(both {} {})", run_text(tail), run_text(body))
             };
@@ -310,14 +310,14 @@ fn main() {
     player.end();
 
     let define = |part: &str, of: &str, text: &str| {
-        println!("\nunfoldable pub {name}{part} : {of}\n{name}{part} ={text}");
+        println!("\nunfoldable pub {name}_{part} : {of}\n{name}_{part} ={text}");
     };
     println!("\n-- ---- {says}");
-    define("Table", "List ℤ", &table_text(&table));
+    define("table", "List ℤ", &table_text(&table));
     let [f, s] = [f, s].map(|word| signs_text(&word));
-    let kit = format!("n = {MOD_SLOT}; f = {f}; s = {s}; table = {name}Table; from = {from}");
-    define("Kit", "Kit", &format!(" record {{ {kit} }}"));
-    define("Begun", "System", &format!(" begun {MOD_SLOT} {at} {} {soft}", argument(step.into())));
-    define("Calls", "List Call", &lines(calls.iter().flat_map(call_lines), "++"));
-    define("Told", "List Told", &lines(player.told.into_iter(), "∷"));
+    let kit = format!("n = {MOD_SLOT}; f = {f}; s = {s}; table = {name}_table; from = {from}");
+    define("kit", "Kit", &format!(" record {{ {kit} }}"));
+    define("begun", "System", &format!(" begun {MOD_SLOT} {at} {} {soft}", argument(step.into())));
+    define("calls", "List Call", &lines(calls.iter().flat_map(call_lines), "++"));
+    define("told", "List Told", &lines(player.told.into_iter(), "∷"));
 }
