@@ -11,12 +11,10 @@ use Rattle.sync_heads.specs.declared.Stage.{Stage}
 use Rattle.sync_heads.specs.declared.Stage.TheVariants.{Before, First, Known}
 use Rattle.sync_heads.specs.declared.Slot.{Slot}
 use Rattle.sync_heads.specs.declared.Course.{Course}
-use Rattle.sync_heads.specs.declared.Marked.{Marked}
 use Rattle.sync_heads.specs.declared.Word.{Word}
 use Rattle.sync_heads.specs.declared.Word.TheVariants.{Ssync, Fsync, NotFsync}
 use Rattle.sync_heads.specs.declared.Said.{Said}
 use Rattle.sync_heads.specs.declared.Head.{Head}
-use Rattle.sync_heads.specs.declared.Headed.{Headed}
 use Rattle.sync_heads.specs.declared.Headed.TheVariants.{Nothing, One}
 use Rattle.sync_heads.specs.declared.Told.{Told}
 use Rattle.sync_heads.specs.declared.Taken.{Taken}

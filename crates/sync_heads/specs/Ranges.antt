@@ -1,9 +1,8 @@
 -- The ranges of docs/RANGES.md, "Slot sync", for stage and course. Symbols are of 16 bits.
-use Rattle.std.specs.Prelude.{ℕ, ◌-◌, ◌*◌, ◌^◌, Bool, true, ◌&&◌, nat_le, unsigned_abs}
+use Rattle.std.specs.Prelude.{◌-◌, ◌^◌, Bool, true, ◌&&◌, nat_le, unsigned_abs}
 use Rattle.sync_corr.specs.declared.Corr.{Corr}
 use Rattle.sync_corr.specs.declared.Both.{Both}
 use Rattle.sync_heads.specs.declared.Reading.{Reading}
-use Rattle.sync_heads.specs.declared.Parity.{Parity}
 use Rattle.sync_heads.specs.declared.Stage.{Stage}
 use Rattle.sync_heads.specs.declared.Stage.TheVariants.{Before, First, Known}
 use Rattle.sync_heads.specs.declared.Slot.{Slot}

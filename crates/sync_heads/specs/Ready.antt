@@ -1,5 +1,5 @@
 -- What the functions need of their arguments; the ranges (Ranges.antt) imply it.
-use Rattle.std.specs.Prelude.{ℕ, ◌^◌, ◌<◌, ◌≤◌, unsigned_abs}
+use Rattle.std.specs.Prelude.{◌^◌, ◌<◌, ◌≤◌, unsigned_abs}
 use Rattle.sync_corr.specs.declared.Corr.{Corr}
 use Rattle.sync_corr.specs.declared.Both.{Both}
 use Rattle.sync_heads.specs.declared.Reading.{Reading}

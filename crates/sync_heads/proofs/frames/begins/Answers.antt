@@ -1,7 +1,6 @@
 -- `sync_heads::frames::begins` meets its contract: one case of the slot at each return. Assumes nothing.
 use Rattle.laws.specs.Choice.{cases}
 use Rattle.sync_heads.specs.Frames.{frame_due}
-use Rattle.std.proofs.Common.{rules}
 use Rattle.sync_heads.proofs.frames.begins.Goals as goal
 
 pub returns-in-Unknown : goal.returns-in-Unknown

@@ -1,7 +1,7 @@
 -- `sync_heads::frames::due` meets its contract: one case at each return. Assumes nothing.
 use Rattle.laws.specs.Choice.{if_no, if_yes}
 use Rattle.sync_heads.specs.Frames.{due_of}
-use Rattle.std.proofs.Common.{rules, le-ltb, lt-ltb}
+use Rattle.std.proofs.Common.{le-ltb, lt-ltb}
 use Rattle.sync_heads.proofs.frames.due.Goals as goal
 
 pub returns-then-marked : goal.returns-then-marked

@@ -1,7 +1,6 @@
 -- `sync_heads::frames::elsewhere` meets its contract: one case at each return. Assumes nothing.
 use Rattle.laws.specs.Choice.{cases}
 use Rattle.sync_heads.specs.Frames.{elsewhere_of}
-use Rattle.std.proofs.Common.{rules}
 use Rattle.sync_heads.proofs.frames.elsewhere.Goals as goal
 
 pub returns-then-unknown : goal.returns-then-unknown

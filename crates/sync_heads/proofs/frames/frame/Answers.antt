@@ -1,7 +1,6 @@
 -- `sync_heads::frames::frame` meets its contract: one case of the record at each return. Assumes nothing.
 use Rattle.laws.specs.Choice.{cases}
 use Rattle.sync_heads.specs.Frames.{frame_of}
-use Rattle.std.proofs.Common.{rules}
 use Rattle.sync_heads.proofs.frames.frame.Goals as goal
 
 pub returns-in-Never : goal.returns-in-Never

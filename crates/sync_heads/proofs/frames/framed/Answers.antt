@@ -1,5 +1,5 @@
 -- `sync_heads::frames::framed` meets its contract: what the call gave. Assumes nothing.
-use Rattle.std.proofs.Common.{◌^◌, ◌<◌, w32, rules}
+use Rattle.std.proofs.Common.{◌^◌, ◌<◌, w32}
 use Rattle.laws.proofs.Size.{back}
 use Rattle.sync_heads.specs.Frames.{framed_of}
 use lib.Signed.{mag}

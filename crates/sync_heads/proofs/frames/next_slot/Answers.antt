@@ -1,7 +1,7 @@
 -- `sync_heads::frames::next_slot` meets its contract: one case of the slot at each return. Assumes nothing.
 use Rattle.laws.specs.Choice.{cases}
 use Rattle.sync_heads.specs.Frames.{next_slot}
-use Rattle.std.proofs.Common.{arith, rules}
+use Rattle.std.proofs.Common.{arith}
 use Rattle.sync_heads.proofs.frames.next_slot.Goals as goal
 
 pub overflow_add-result : goal.overflow_add-result

@@ -1,7 +1,6 @@
 -- `sync_heads::frames::unknown` meets its contract: one case of the slot at each return. Assumes nothing.
 use Rattle.laws.specs.Choice.{cases}
 use Rattle.sync_heads.specs.Frames.{unknown_slot}
-use Rattle.std.proofs.Common.{rules}
 use Rattle.sync_heads.proofs.frames.unknown.Goals as goal
 
 pub returns-in-Unknown : goal.returns-in-Unknown

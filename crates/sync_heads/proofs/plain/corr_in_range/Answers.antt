@@ -1,5 +1,5 @@
 -- `sync_heads::plain::corr_in_range` meets its contract: what the two calls gave. Assumes nothing.
-use Rattle.std.proofs.Common.{◌^◌, ◌<◌, w32, rules}
+use Rattle.std.proofs.Common.{◌^◌, ◌<◌, w32}
 use Rattle.laws.proofs.Size.{back}
 use Rattle.sync_heads.specs.Ranges.{corr_in_range}
 use lib.Signed.{mag}

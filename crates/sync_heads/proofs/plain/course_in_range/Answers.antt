@@ -1,5 +1,5 @@
 -- `sync_heads::plain::course_in_range` meets its contract: what the calls gave, and both ends of the majority are one test of its size. Assumes nothing.
-use Rattle.std.proofs.Common.{◌^◌, ◌<◌, w32, rules}
+use Rattle.std.proofs.Common.{◌^◌, ◌<◌, w32}
 use Rattle.laws.proofs.Size.{back, within_abs}
 use Rattle.sync_heads.specs.Ranges.{course_in_range}
 use lib.Signed.{mag}

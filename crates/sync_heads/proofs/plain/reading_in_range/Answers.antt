@@ -1,6 +1,5 @@
 -- `sync_heads::plain::reading_in_range` meets its contract: what the two calls gave. Assumes nothing.
 use Rattle.sync_heads.specs.Ranges.{both_in_range, reading_in_range}
-use Rattle.std.proofs.Common.{rules}
 use Rattle.sync_heads.proofs.plain.reading_in_range.Goals as goal
 
 pub returns : goal.returns

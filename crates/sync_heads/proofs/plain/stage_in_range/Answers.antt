@@ -1,7 +1,6 @@
 -- `sync_heads::plain::stage_in_range` meets its contract: one case at each return. Assumes nothing.
 use Rattle.laws.specs.Choice.{cases}
 use Rattle.sync_heads.specs.Ranges.{stage_in_range}
-use Rattle.std.proofs.Common.{rules}
 use Rattle.sync_heads.proofs.plain.stage_in_range.Goals as goal
 
 pub returns-in-Before : goal.returns-in-Before

@@ -1,7 +1,6 @@
 -- `sync_heads::ranged::is_fsync` meets its contract: one case of the word at each return. Assumes nothing.
 use Rattle.laws.specs.Choice.{cases}
 use Rattle.sync_heads.specs.Heads.{is_fsync}
-use Rattle.std.proofs.Common.{rules}
 use Rattle.sync_heads.proofs.ranged.is_fsync.Goals as goal
 
 pub returns-in-Ssync : goal.returns-in-Ssync

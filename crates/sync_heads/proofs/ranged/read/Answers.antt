@@ -1,6 +1,5 @@
 -- `sync_heads::ranged::read` meets its contract: one case at each return. Assumes nothing.
 use Rattle.sync_heads.specs.Heads.{read_of}
-use Rattle.std.proofs.Common.{rules}
 use Rattle.sync_heads.proofs.ranged.read.Goals as goal
 
 pub first-requires : goal.first-requires

@@ -1,5 +1,5 @@
 -- `sync_heads::words::margin` meets its contract: the difference of two sizes. Assumes nothing.
-use Rattle.std.proofs.Common.{◌≡◌, ◌+◌, ◌^◌, ◌<◌, ◌≤◌, ℤ, pos, ◌-ℤ◌, nat_abs, ◌∙◌, w64, to_z, of_z, rules}
+use Rattle.std.proofs.Common.{◌≡◌, ◌+◌, ◌^◌, ◌<◌, ◌≤◌, ℤ, pos, ◌-ℤ◌, nat_abs, ◌∙◌, w64, to_z, of_z}
 use Rattle.fx.specs.Fx.{mag_approx}
 use Rattle.laws.proofs.Size.{Num, at, back, fits, less}
 use Rattle.sync_heads.specs.Words.{margin_of}

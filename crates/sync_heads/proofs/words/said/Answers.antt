@@ -2,7 +2,7 @@
 use Rattle.laws.proofs.Size.{back}
 use Rattle.laws.specs.Choice.{cases, if_no, if_yes}
 use Rattle.sync_heads.specs.Words.{said_of}
-use Rattle.std.proofs.Common.{◌∙◌, w64, rules}
+use Rattle.std.proofs.Common.{◌∙◌, w64}
 use Rattle.sync_heads.proofs.words.said.Goals as goal
 
 pub returns-then-ssync : goal.returns-then-ssync
