@@ -1,5 +1,5 @@
 -- What the entries of fx answer: document 01's refusal number where its table refuses, place "arithmetic" (6) or "carrier table" (3), else the value.
-use Rattle.std.specs.Prelude.{ℕ, ◌^◌, Bool, not, ◌||◌, List, length, ℤ, pos, ◌==◌, int_lt, nat_le, nat_lt, unsigned_abs}
+use Rattle.std.specs.Prelude.{ℕ, ◌^◌, Bool, ◌||◌, List, length, ℤ, pos, ◌==◌, int_lt, nat_le, nat_lt, unsigned_abs}
 use Rattle.laws.specs.Choice.{if◌then◌else◌}
 use Rattle.fx.specs.Fx.{round_shift, div_round, mag_approx, sat16_of, sat127_of, sat32_of, trunc_index, round_index, cos_sin_at}
 use Rattle.fx.specs.Cordic.{cordic_of}

@@ -1,6 +1,6 @@
 -- The first number that passes a test: a step of the search, where it ends, and that it is the first. Assumes nothing.
-use Rattle.std.proofs.Common.{◌≡◌, ℕ, zero, suc, ◌+◌, ◌<◌, ◌≤◌, Bool, true, false, sym, refl, ap, ◌∙◌, subst, ⊎_elim, add-zero, eq-or-lt_of_le, arith}
-use Rattle.laws.specs.Choice.{if◌then◌else◌, if_yes, if_no}
+use Rattle.std.proofs.Common.{◌≡◌, ℕ, zero, suc, ◌+◌, ◌<◌, ◌≤◌, Bool, true, false, refl, subst, ⊎_elim, add-zero, eq-or-lt_of_le, arith}
+use Rattle.laws.specs.Choice.{if_yes, if_no}
 use Rattle.laws.specs.Ranges.{first_from}
 use Rattle.laws.proofs.Tests.{by_test}
 

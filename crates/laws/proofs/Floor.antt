@@ -1,9 +1,8 @@
 -- `shr_z z m` is the floor of z / m: what that means, and how the code computes it by sizes. Assumes nothing.
-use Rattle.std.proofs.Common.{◌≡◌, ℕ, zero, suc, ◌+◌, ◌-◌, ◌*◌, ◌/◌, ◌%◌, ◌<◌, ◌≤◌, true, false, ltb, ℤ, pos, negsuc, ◌+ℤ◌, ◌-ℤ◌, ◌*ℤ◌, nat_abs, sym, refl, ap, ◌∙◌, mod-lt, div-add-mod', zero-add, sub-one, arith, ltb-true, lt-ltb}
+use Rattle.std.proofs.Common.{◌≡◌, ℕ, zero, suc, ◌+◌, ◌-◌, ◌*◌, ◌/◌, ◌%◌, ◌<◌, true, false, ltb, ℤ, pos, negsuc, ◌+ℤ◌, ◌-ℤ◌, ◌*ℤ◌, nat_abs, sym, refl, ap, ◌∙◌, mod-lt, div-add-mod', zero-add, sub-one, arith, ltb-true, lt-ltb}
 use native.Mathlib.Nat.{div-div-eq-div-mul}
 use lib.Signed.{lt_z, shr_z}
 use Rattle.laws.proofs.Tests.{never}
-use Rattle.laws.proofs.Linear.{up, dn, sum_ud}
 
 -- q is the floor of z / m: z is q times m and a rest from 0 to below m
 pub record IsFloor (z : ℤ) (m : ℕ) (q : ℤ) : Type 0 where

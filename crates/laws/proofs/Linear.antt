@@ -1,6 +1,6 @@
 -- Linear arithmetic on ℤ by `omega`, which reads ℕ alone: z is up z - dn z, and each operation, order and test is one linear fact of those
 -- two numbers. `omega (arith, sum_ud a b, ud_le h)` then closes a linear goal. Assumes nothing.
-use Rattle.std.proofs.Common.{◌≡◌, ℕ, zero, suc, ◌+◌, ◌-◌, ◌<◌, ◌≤◌, Bool, true, false, cond, ltb, leb, ℤ, pos, negsuc, ◌+ℤ◌, ◌-ℤ◌, neg_ℤ, nat_abs, ◌≤ℤ◌, ◌<ℤ◌, sym, refl, ap, ◌∙◌, arith, le→leb, ltb→lt, lt→ltb, leb→le, ltb-false, ltb-true, le-ltb, lt-ltb}
+use Rattle.std.proofs.Common.{◌≡◌, ℕ, zero, suc, ◌+◌, ◌-◌, ◌<◌, ◌≤◌, Bool, true, false, cond, ltb, ℤ, pos, negsuc, ◌+ℤ◌, ◌-ℤ◌, neg_ℤ, nat_abs, ◌≤ℤ◌, ◌<ℤ◌, refl, ap, arith, le→leb, ltb→lt, lt→ltb, leb→le, ltb-false, ltb-true, le-ltb, lt-ltb}
 use lib.Signed.{lt_z}
 
 abbrev pub up : ℤ → ℕ

@@ -1,5 +1,5 @@
 -- A loop that writes an array or a lent slice from its start: after i turns it holds `firsts f i ++ drop i ys`. Assumes nothing.
-use Rattle.std.proofs.Common.{◌≡◌, ℕ, zero, suc, ◌+◌, ◌<◌, ◌≤◌, List, [], ◌∷◌, ◌++◌, length, get_or, drop, set, sym, refl, ap, ◌∙◌, ⊎_elim, append_assoc, le_refl, le_of_suc-le-suc, not-suc-le-zero, eq-or-lt_of_le, add-one, arith, length-append, length-drop, drop-cons}
+use Rattle.std.proofs.Common.{◌≡◌, ℕ, zero, suc, ◌+◌, ◌<◌, ◌≤◌, List, [], ◌∷◌, ◌++◌, length, get_or, drop, set, sym, refl, ◌∙◌, ⊎_elim, append_assoc, le_refl, le_of_suc-le-suc, not-suc-le-zero, eq-or-lt_of_le, add-one, arith, length-append, length-drop, drop-cons}
 use lib.ListN.{get_or-append}
 use lib.Seq.{set_at, get_or_at}
 use Rattle.laws.specs.Ranges.{firsts}

@@ -1,5 +1,5 @@
 -- ℤ's product over sums and differences, which lib.IntN lacks. Assumes nothing.
-use Rattle.std.proofs.Common.{◌≡◌, ℕ, zero, suc, ℤ, pos, negsuc, ◌+ℤ◌, ◌-ℤ◌, ◌*ℤ◌, neg_ℤ, sym, refl, ap, ◌∙◌, ap₂}
+use Rattle.std.proofs.Common.{◌≡◌, ℕ, zero, suc, ℤ, pos, negsuc, ◌+ℤ◌, ◌-ℤ◌, ◌*ℤ◌, neg_ℤ, sym, ap, ◌∙◌, ap₂}
 use lib.IntN.{+ℤ-suc_ℤ, +ℤ-pred_ℤ, +ℤ_idr, +ℤ_idl, +ℤ_assoc, suc_ℤ-*ℤ, pred_ℤ-*ℤ, zero-*ℤ, *ℤ-zero, *ℤ-negsuc, *ℤ_comm, neg_ℤ-neg_ℤ}
 
 dist_pos : (a c : ℤ) (n : ℕ) → (a +ℤ pos n) *ℤ c ≡ a *ℤ c +ℤ pos n *ℤ c

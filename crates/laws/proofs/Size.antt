@@ -1,9 +1,9 @@
 -- Sizes of integers, as facts on natural numbers that `omega` reads; what fits a machine number; and a calculus of machine numbers with a
 -- size, by which a chain of signed operations is one term. Assumes nothing.
-use Rattle.std.proofs.Common.{◌≡◌, ℕ, zero, suc, ◌+◌, ◌-◌, ◌*◌, ◌/◌, ◌%◌, ◌^◌, ◌<◌, ◌≤◌, max, Bool, true, false, cond, ◌&&◌, T, ltb, leb, ℤ, pos, negsuc, ◌+ℤ◌, ◌-ℤ◌, ◌*ℤ◌, neg_ℤ, nat_abs, sym, refl, ap, ◌∙◌, ap₂, lt_trans, le_refl, mod-eq_of_lt, mul-le-mul, one-mul, zero-add, div-le_self, add-one, arith, lit<, ltb→lt, to_z-of_z, w32, w64, SFits, to_z, of_z, ltb-false, ltb-true, le-leb, leb-false, leb-true}
+use Rattle.std.proofs.Common.{◌≡◌, ℕ, zero, suc, ◌+◌, ◌-◌, ◌*◌, ◌%◌, ◌^◌, ◌<◌, ◌≤◌, max, Bool, true, false, cond, ◌&&◌, T, ltb, leb, ℤ, pos, negsuc, ◌+ℤ◌, ◌-ℤ◌, ◌*ℤ◌, neg_ℤ, nat_abs, sym, refl, ap, ◌∙◌, ap₂, lt_trans, le_refl, mod-eq_of_lt, mul-le-mul, one-mul, zero-add, div-le_self, add-one, arith, lit<, ltb→lt, to_z-of_z, w64, SFits, to_z, of_z, ltb-false, ltb-true, le-leb, leb-false, leb-true}
 use native.Mathlib.Nat.{le-suc}
 use borrow.Author.Tests.{lt-leb}
-use lib.IntN.{+ℤ_one, +ℤ_idl}
+use lib.IntN.{+ℤ_one}
 use lib.Pow.{pow-lt}
 use lib.Signed.{mag, lt_z, le_z, shr_z, non_neg, mag_shr}
 use mir.Syntax.{Width}

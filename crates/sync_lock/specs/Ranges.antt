@@ -1,5 +1,5 @@
 -- The ranges of docs/RANGES.md, "Slot sync", for the figures and the lock.
-use Rattle.std.specs.Prelude.{ℕ, ◌<◌, Bool, ◌&&◌, leb}
+use Rattle.std.specs.Prelude.{◌<◌, Bool, ◌&&◌, leb}
 use Rattle.sync_lock.specs.declared.Tally.{Tally}
 use Rattle.sync_lock.specs.declared.Lock.{Lock}
 use Rattle.sync_lock.specs.declared.Lock.TheVariants.{Search, Locked}

@@ -1,7 +1,7 @@
 -- `fx::clamp32` meets its contract. Assumes nothing.
 use Rattle.std.proofs.Common.{sym, ◌∙◌, arith, to_z-of_z, w32, SFits}
 use Rattle.fx.specs.Fx.{sat32_of}
-use Rattle.laws.proofs.Size.{at, fits, mag_clamped}
+use Rattle.laws.proofs.Size.{mag_clamped}
 use Rattle.laws.specs.Choice.{if_no, if_yes}
 use Rattle.fx.proofs.clamp32.Lts as lts
 use Rattle.fx.proofs.clamp32.Reads as reads

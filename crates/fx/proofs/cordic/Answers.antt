@@ -1,8 +1,7 @@
 -- `fx::cordic` meets its contract. Assumes nothing.
-use Rattle.std.proofs.Common.{◌≡◌, ◌||◌, sym, ◌∙◌, to_z-of_z, rules}
+use Rattle.std.proofs.Common.{◌≡◌, ◌||◌, sym, ◌∙◌, to_z-of_z}
 use Rattle.fx.proofs.Laws.{not_outside}
 use Rattle.fx.specs.Answers.{outside, cordic_answer}
-use Rattle.laws.proofs.Size.{fits, at}
 use Rattle.laws.proofs.Tests.{neither}
 use Rattle.laws.specs.Choice.{if_yes, if_no}
 use Rattle.fx.proofs.cordic.Lts as lts

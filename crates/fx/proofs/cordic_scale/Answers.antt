@@ -1,7 +1,6 @@
 -- `fx::cordic_scale` meets its contract. Assumes nothing.
 use Rattle.std.proofs.Common.{◌≡◌, ◌||◌, sym, ◌∙◌, to_z-of_z, rules}
 use Rattle.fx.specs.Answers.{cordic_scale_answer, wide}
-use Rattle.laws.proofs.Size.{fits, at}
 use Rattle.laws.proofs.Tests.{neither}
 use Rattle.laws.specs.Choice.{if_yes, if_no}
 use Rattle.fx.proofs.cordic_scale.Lts as lts

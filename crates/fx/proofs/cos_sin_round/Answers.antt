@@ -1,5 +1,5 @@
 -- `fx::cos_sin_round` meets its contract. Assumes nothing.
-use Rattle.std.proofs.Common.{sym, rules, eq-eqb, ne_eqb}
+use Rattle.std.proofs.Common.{sym, eq-eqb, ne_eqb}
 use Rattle.fx.specs.Answers.{cos_sin_round_answer}
 use Rattle.laws.specs.Choice.{if_no, if_yes}
 use Rattle.fx.proofs.cos_sin_round.Goals as goal

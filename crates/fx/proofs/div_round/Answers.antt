@@ -1,9 +1,8 @@
 -- `fx::div_round` meets its contract. Assumes nothing.
-use Rattle.std.proofs.Common.{◌≡◌, Bool, false, ◌||◌, pos, sym, ap, ◌∙◌, to_z-of_z, rules}
+use Rattle.std.proofs.Common.{◌≡◌, Bool, false, ◌||◌, pos, sym, ap, ◌∙◌, to_z-of_z}
 use lib.Signed.{lt_z}
 use Rattle.fx.proofs.Laws.{not_wide}
 use Rattle.fx.specs.Answers.{wide, div_round_answer}
-use Rattle.laws.proofs.Size.{fits, at}
 use Rattle.laws.proofs.Tests.{neither}
 use Rattle.laws.specs.Choice.{if_no, if_yes}
 use Rattle.fx.proofs.div_round.Lts as lts

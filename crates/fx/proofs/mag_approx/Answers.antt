@@ -1,8 +1,7 @@
 -- `fx::mag_approx` meets its contract. Assumes nothing.
-use Rattle.std.proofs.Common.{◌≡◌, ◌||◌, sym, ◌∙◌, to_z-of_z, rules}
+use Rattle.std.proofs.Common.{◌≡◌, ◌||◌, sym, ◌∙◌, to_z-of_z}
 use Rattle.fx.proofs.Laws.{not_wide}
 use Rattle.fx.specs.Answers.{mag_approx_answer, wide}
-use Rattle.laws.proofs.Size.{at, fits}
 use Rattle.laws.proofs.Tests.{neither}
 use Rattle.laws.specs.Choice.{if_no, if_yes}
 use Rattle.fx.proofs.mag_approx.Lts as lts

@@ -1,8 +1,7 @@
 -- `fx::round_shift` meets its contract. Assumes nothing.
-use Rattle.std.proofs.Common.{◌≡◌, Bool, ◌||◌, ltb, sym, ap, ◌∙◌, to_z-of_z, rules, le-ltb, lt-ltb}
+use Rattle.std.proofs.Common.{◌≡◌, Bool, ◌||◌, ltb, sym, ap, ◌∙◌, to_z-of_z, le-ltb, lt-ltb}
 use Rattle.fx.proofs.Laws.{not_wide}
 use Rattle.fx.specs.Answers.{round_shift_answer, wide}
-use Rattle.laws.proofs.Size.{at, fits}
 use Rattle.laws.specs.Choice.{if_yes, if_no}
 use Rattle.fx.proofs.round_shift.Lts as lts
 use Rattle.fx.proofs.round_shift.Tie as tie

@@ -1,7 +1,6 @@
 -- `fx::sat127` meets its contract. Assumes nothing.
-use Rattle.std.proofs.Common.{◌≡◌, sym, ◌∙◌, to_z-of_z, rules}
+use Rattle.std.proofs.Common.{◌≡◌, sym, ◌∙◌, to_z-of_z}
 use Rattle.fx.specs.Answers.{sat127_answer, wide}
-use Rattle.laws.proofs.Size.{fits, at}
 use Rattle.laws.specs.Choice.{if_no, if_yes}
 use Rattle.fx.proofs.sat127.Lts as lts
 use Rattle.fx.proofs.sat127.Tie as tie

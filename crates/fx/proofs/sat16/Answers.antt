@@ -1,7 +1,6 @@
 -- `fx::sat16` meets its contract. Assumes nothing.
-use Rattle.std.proofs.Common.{◌≡◌, sym, ◌∙◌, to_z-of_z, rules}
+use Rattle.std.proofs.Common.{◌≡◌, sym, ◌∙◌, to_z-of_z}
 use Rattle.fx.specs.Answers.{sat16_answer, wide}
-use Rattle.laws.proofs.Size.{at, fits}
 use Rattle.laws.specs.Choice.{if_yes, if_no}
 use Rattle.fx.proofs.sat16.Lts as lts
 use Rattle.fx.proofs.sat16.Tie as tie

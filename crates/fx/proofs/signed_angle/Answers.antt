@@ -1,8 +1,8 @@
 -- `fx::signed_angle` meets its contract. Assumes nothing.
-use Rattle.std.proofs.Common.{◌≡◌, ℕ, ◌^◌, ◌<◌, pos, ◌-ℤ◌, sym, ◌∙◌, arith, to_z-of_z, w64, SFits, to_z, rules, le-ltb, lt-ltb}
+use Rattle.std.proofs.Common.{◌≡◌, ℕ, ◌^◌, ◌<◌, pos, ◌-ℤ◌, sym, ◌∙◌, arith, to_z-of_z, w64, SFits, to_z, le-ltb, lt-ltb}
 use mir.Facts.{to_z_pos}
 use Rattle.fx.specs.Fx.{signed_angle}
-use Rattle.laws.proofs.Size.{fits, sfits_abs, abs_sub}
+use Rattle.laws.proofs.Size.{sfits_abs, abs_sub}
 use Rattle.laws.specs.Choice.{if_yes, if_no}
 use Rattle.fx.proofs.signed_angle.Goals as goal
 

@@ -1,6 +1,5 @@
 -- `solve_step::solve` meets its contract. Assumes nothing.
 use mathlib.Core.Path.{sym}
-use borrow.Author.Rules.{rules}
 use borrow.Author.Tests.{eq-eqb, ne_eqb}
 use Rattle.laws.specs.Choice.{if_yes, if_no}
 use Rattle.solve_step.specs.Back.{none_yet, solution_of}

@@ -1,7 +1,7 @@
 -- `fx::plain::sat127` meets its contract. Assumes nothing.
 use Rattle.std.proofs.Common.{sym, ◌∙◌, arith, to_z-of_z, w8, SFits}
 use Rattle.fx.specs.Fx.{sat127_of}
-use Rattle.laws.proofs.Size.{fits, at, mag_clamped}
+use Rattle.laws.proofs.Size.{mag_clamped}
 use Rattle.laws.specs.Choice.{if_yes, if_no}
 use Rattle.fx.proofs.plain.sat127.Lts as lts
 use Rattle.fx.proofs.plain.sat127.Reads as reads

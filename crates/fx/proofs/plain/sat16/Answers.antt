@@ -1,7 +1,7 @@
 -- `fx::plain::sat16` meets its contract. Assumes nothing.
 use Rattle.std.proofs.Common.{sym, ◌∙◌, arith, to_z-of_z, w16, SFits}
 use Rattle.fx.specs.Fx.{sat16_of}
-use Rattle.laws.proofs.Size.{mag_clamped, at, fits}
+use Rattle.laws.proofs.Size.{mag_clamped}
 use Rattle.laws.specs.Choice.{if_yes, if_no}
 use Rattle.fx.proofs.plain.sat16.Lts as lts
 use Rattle.fx.proofs.plain.sat16.Reads as reads

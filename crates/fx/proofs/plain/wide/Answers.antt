@@ -1,5 +1,5 @@
 -- `fx::plain::wide` meets its contract. Assumes nothing.
-use Rattle.std.proofs.Common.{to_z-of_z, rules}
+use Rattle.std.proofs.Common.{to_z-of_z}
 use Rattle.fx.proofs.plain.wide.Goals as goal
 
 pub returns : goal.returns

@@ -1,5 +1,5 @@
 -- x after all steps is small enough to be multiplied and shifted. Assumes nothing.
-use Rattle.std.proofs.Common.{◌≡◌, ℕ, ◌+◌, ◌*◌, ◌^◌, ◌<◌, ◌≤◌, pos, ◌*ℤ◌, nat_abs, refl, arith, to_z-of_z, w64, SFits, rules}
+use Rattle.std.proofs.Common.{◌≡◌, ◌+◌, ◌*◌, ◌^◌, ◌≤◌, pos, ◌*ℤ◌, nat_abs, arith, to_z-of_z, w64, SFits}
 use Rattle.laws.proofs.Size.{abs_mul, sfits_abs}
 use Rattle.fx.specs.Cordic.{cordic_start, cordic_steps, cordic_of}
 use Rattle.fx.proofs.Bounds.{start_within, steps_within_lem, far_size}

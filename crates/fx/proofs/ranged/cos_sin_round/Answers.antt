@@ -1,5 +1,5 @@
 -- `fx::ranged::cos_sin_round` meets its contract. Assumes nothing.
-use Rattle.std.proofs.Common.{◌∙◌, rules}
+use Rattle.std.proofs.Common.{◌∙◌}
 use Rattle.fx.specs.Fx.{round_index}
 use Rattle.fx.proofs.ranged.cos_sin_round.Goals as goal
 

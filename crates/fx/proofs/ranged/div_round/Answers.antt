@@ -3,7 +3,7 @@ use Rattle.std.proofs.Common.{◌≡◌, ◌*◌, ℤ, ◌+ℤ◌, nat_abs, ap, 
 use lib.Signed.{shr_z}
 use Rattle.fx.proofs.Laws.{pos_of}
 use Rattle.fx.specs.Fx.{div_round}
-use Rattle.laws.proofs.Size.{sfits_abs, above_zero, abs_add, at, fits}
+use Rattle.laws.proofs.Size.{sfits_abs, above_zero, abs_add}
 use Rattle.fx.proofs.ranged.div_round.Lts as lts
 use Rattle.fx.proofs.ranged.div_round.Tie as tie
 use Rattle.fx.proofs.ranged.div_round.Reads as reads

@@ -1,9 +1,8 @@
 -- `fx::ranged::mag_approx` meets its contract: the sizes are naturals, and omega reads max, min and halves. Assumes nothing.
 -- what the two calls gave: the sizes of the parameters
-use Rattle.std.proofs.Common.{◌≡◌, pos, nat_abs, ap, ◌∙◌, arith, to_z-of_z, w64, rules}
+use Rattle.std.proofs.Common.{◌≡◌, pos, nat_abs, ap, ◌∙◌, arith, to_z-of_z, w64}
 use mir.Facts.{to_z_pos}
 use Rattle.fx.specs.Fx.{mag_approx}
-use Rattle.laws.proofs.Size.{fits, at}
 use Rattle.fx.proofs.ranged.mag_approx.Lts as lts
 use Rattle.fx.proofs.ranged.mag_approx.Tie as tie
 use Rattle.fx.proofs.ranged.mag_approx.Reads as reads

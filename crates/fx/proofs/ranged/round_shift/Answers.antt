@@ -1,8 +1,8 @@
 -- `fx::ranged::round_shift` meets its contract. `>>` on an i64 is the floor. Assumes nothing.
-use Rattle.std.proofs.Common.{◌-◌, ◌^◌, ◌≤◌, pos, ◌+ℤ◌, sym, ◌∙◌, arith, pow_mono, to_z-of_z, w64, SFits, rules, eq-eqb, ne_eqb}
+use Rattle.std.proofs.Common.{◌-◌, ◌^◌, ◌≤◌, pos, ◌+ℤ◌, sym, ◌∙◌, arith, pow_mono, to_z-of_z, w64, SFits, eq-eqb, ne_eqb}
 use Rattle.fx.proofs.Laws.{half_up_lem}
 use Rattle.fx.specs.Fx.{round_shift}
-use Rattle.laws.proofs.Size.{fits, one_shl, sfits_shr, sfits_abs, abs_add}
+use Rattle.laws.proofs.Size.{one_shl, sfits_shr, sfits_abs, abs_add}
 use Rattle.laws.specs.Choice.{if_no, if_yes}
 use Rattle.fx.proofs.ranged.round_shift.Lts as lts
 use Rattle.fx.proofs.ranged.round_shift.Reads as reads

@@ -1,10 +1,10 @@
 -- `fx::sizes::floor_div` meets its contract: the floor by sizes. Assumes nothing.
-use Rattle.std.proofs.Common.{◌≡◌, ◌-◌, ◌/◌, true, false, pos, negsuc, ◌-ℤ◌, nat_abs, ◌∙◌, div-le_self, arith, to_z-of_z, w64, to_z, rules}
+use Rattle.std.proofs.Common.{◌≡◌, ◌-◌, ◌/◌, true, false, pos, negsuc, ◌-ℤ◌, nat_abs, ◌∙◌, div-le_self, arith, to_z-of_z, w64, to_z}
 use lib.Signed.{lt_z, shr_z, mag_shr}
 use mir.Facts.{to_z_pos}
 use mir.ValLaws.{sfits_le}
 use Rattle.laws.proofs.Floor.{floor_pos, floor_neg}
-use Rattle.laws.proofs.Size.{at, size_pos, fits, size_neg}
+use Rattle.laws.proofs.Size.{size_pos, size_neg}
 use Rattle.fx.proofs.sizes.floor_div.Lts as lts
 use Rattle.fx.proofs.sizes.floor_div.Tie as tie
 use Rattle.fx.proofs.sizes.floor_div.Reads as reads

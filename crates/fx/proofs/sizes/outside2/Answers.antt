@@ -1,6 +1,5 @@
 -- `fx::sizes::outside2` meets its contract. Assumes nothing.
-use Rattle.std.proofs.Common.{ℕ, ◌^◌, ◌||◌, leb, ap₂, to_z-of_z, rules}
-use Rattle.laws.proofs.Size.{at, fits}
+use Rattle.std.proofs.Common.{ℕ, ◌^◌, ◌||◌, leb, ap₂, to_z-of_z}
 use Rattle.fx.proofs.sizes.outside2.Goals as goal
 
 pub returns : goal.returns

@@ -1,8 +1,8 @@
 -- `fx::sizes::size` meets its contract. A negative v is turned round after one is added, so that the least i64 has a size too. Assumes nothing.
-use Rattle.std.proofs.Common.{◌≡◌, pos, ◌+ℤ◌, ◌-ℤ◌, ◌∙◌, arith, to_z-of_z, w64, to_z, of_z, rules}
+use Rattle.std.proofs.Common.{◌≡◌, pos, ◌+ℤ◌, ◌-ℤ◌, ◌∙◌, arith, to_z-of_z, w64, to_z, of_z}
 use lib.Signed.{mag}
 use mir.Facts.{Fits-nat_abs}
-use Rattle.laws.proofs.Size.{step_up, flip_up, pos_abs, fits, at}
+use Rattle.laws.proofs.Size.{step_up, flip_up, pos_abs}
 use Rattle.fx.proofs.sizes.size.Lts as lts
 use Rattle.fx.proofs.sizes.size.Reads as reads
 use Rattle.fx.proofs.sizes.size.Goals as goal

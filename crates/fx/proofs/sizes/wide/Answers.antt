@@ -1,6 +1,5 @@
 -- `fx::sizes::wide` meets its contract. Assumes nothing.
-use Rattle.std.proofs.Common.{◌^◌, ltb, ap, to_z-of_z, rules}
-use Rattle.laws.proofs.Size.{fits, at}
+use Rattle.std.proofs.Common.{◌^◌, ltb, ap, to_z-of_z}
 use Rattle.fx.proofs.sizes.wide.Goals as goal
 
 pub returns : goal.returns

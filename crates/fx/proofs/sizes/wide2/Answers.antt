@@ -1,7 +1,5 @@
 -- `fx::sizes::wide2` meets its contract. Assumes nothing.
-use Rattle.std.proofs.Common.{◌||◌, ap₂, to_z-of_z, rules}
-use Rattle.fx.specs.Answers.{wide}
-use Rattle.laws.proofs.Size.{at, fits}
+use Rattle.std.proofs.Common.{◌||◌, ap₂, to_z-of_z}
 use Rattle.fx.proofs.sizes.wide2.Goals as goal
 
 pub returns : goal.returns

@@ -1,5 +1,5 @@
 -- `fx::turns::cos_sin_at` meets its contract. Assumes nothing.
-use Rattle.std.proofs.Common.{◌+◌, ◌%◌, ◌≤◌, get_or, ℤ, pos, nat_abs, refl, arith, to_z-of_z, w16, SFits, rules}
+use Rattle.std.proofs.Common.{◌+◌, ◌%◌, ◌≤◌, get_or, ℤ, pos, nat_abs, refl, arith, to_z-of_z, w16, SFits}
 use mir.Facts.{sfits_widen}
 use Rattle.fx.specs.Fx.{cos_sin_at}
 use Rattle.laws.proofs.Size.{abs≤}

@@ -1,9 +1,8 @@
 -- `fx::turns::least_shift` meets its contract. Assumes nothing.
 -- No shift before s does, so the search from s on finds what the search from 0 on finds. `re` and `im` are bits here.
-use Rattle.std.proofs.Common.{◌≡◌, ℕ, suc, ◌+◌, ◌-◌, ◌≤◌, Bool, sym, refl, ◌∙◌, add-one, arith, to_z-of_z, w64, to_z, of_z}
+use Rattle.std.proofs.Common.{◌≡◌, ℕ, suc, ◌+◌, ◌-◌, Bool, sym, refl, ◌∙◌, add-one, arith, to_z-of_z, w64, to_z, of_z}
 use Rattle.fx.specs.Scale.{least_shift, under_at}
 use Rattle.laws.proofs.First.{first_here, first-none, first_next}
-use Rattle.laws.proofs.Size.{fits, at}
 use Rattle.laws.specs.Ranges.{first_from}
 use Rattle.fx.proofs.turns.least_shift.Lts as lts
 use Rattle.fx.proofs.turns.least_shift.Tie as tie

@@ -1,7 +1,5 @@
-use Rattle.std.proofs.Common.{◌≡◌, ℕ, suc, ◌+◌, ◌-◌, ◌≤◌, Bool, sym, refl, ◌∙◌, add-one, arith, to_z-of_z, w64, to_z, of_z}
-use Rattle.fx.specs.Scale.{least_shift, under_at}
-use Rattle.laws.proofs.First.{first_here, first-none, first_next}
-use Rattle.laws.proofs.Size.{fits, at}
+use Rattle.std.proofs.Common.{◌≡◌, ◌-◌, ◌≤◌}
+use Rattle.fx.specs.Scale.{under_at}
 use Rattle.laws.specs.Ranges.{first_from}
 use Rattle.fx.proofs.turns.least_shift.Given as goal
 

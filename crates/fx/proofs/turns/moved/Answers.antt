@@ -1,6 +1,6 @@
 -- `fx::turns::moved` meets its contract. Assumes nothing.
 use Rattle.std.proofs.Common.{◌+ℤ◌, ◌-ℤ◌, sym, arith, to_z-of_z, w64, SFits, rules}
-use Rattle.laws.proofs.Size.{fits, abs_add, sfits_abs, abs_sub}
+use Rattle.laws.proofs.Size.{abs_add, sfits_abs, abs_sub}
 use Rattle.laws.specs.Choice.{if_no, if_yes}
 use Rattle.fx.proofs.turns.moved.Lts as lts
 use Rattle.fx.proofs.turns.moved.Reads as reads

@@ -1,7 +1,7 @@
 -- `fx::turns::scale` meets its contract. Assumes nothing.
-use Rattle.std.proofs.Common.{◌^◌, to_z-of_z, rules}
+use Rattle.std.proofs.Common.{◌^◌, to_z-of_z}
 use Rattle.fx.specs.Scale.{cordic_scale}
-use Rattle.laws.proofs.Size.{fits, at, sfits_shr}
+use Rattle.laws.proofs.Size.{sfits_shr}
 use Rattle.fx.proofs.turns.scale.Goals as goal
 
 pub returns : goal.returns

@@ -4,7 +4,7 @@ use Rattle.std.proofs.Common.{◌≡◌, ◌^◌, ◌<◌, ℤ, pos, ◌*ℤ◌,
 use lib.IntN.{+ℤ_idl}
 use lib.Signed.{lt_z}
 use Rattle.fx.specs.Cordic.{right_half, cordic_start}
-use Rattle.laws.proofs.Size.{abs_mul, abs_neg, sfits_abs, fits}
+use Rattle.laws.proofs.Size.{abs_mul, abs_neg, sfits_abs}
 use Rattle.laws.specs.Choice.{if_no, if_yes}
 use Rattle.fx.proofs.turns.start.Lts as lts
 use Rattle.fx.proofs.turns.start.Reads as reads

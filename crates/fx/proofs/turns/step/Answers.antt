@@ -1,8 +1,8 @@
 -- `fx::turns::step` meets its contract. Assumes nothing.
 -- the parts fit, and so do their shifts
-use Rattle.std.proofs.Common.{◌^◌, arith, to_z-of_z, w64, SFits, rules}
+use Rattle.std.proofs.Common.{◌^◌, arith, to_z-of_z, w64, SFits}
 use Rattle.fx.proofs.Laws.{step_parts}
-use Rattle.laws.proofs.Size.{back, sfits_shr, abs_shr, at, sfits_abs}
+use Rattle.laws.proofs.Size.{back, sfits_shr, abs_shr, sfits_abs}
 use Rattle.fx.proofs.turns.step.Lts as lts
 use Rattle.fx.proofs.turns.step.Tie as tie
 use Rattle.fx.proofs.turns.step.Reads as reads

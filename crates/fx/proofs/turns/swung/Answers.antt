@@ -1,6 +1,6 @@
 -- `fx::turns::swung` meets its contract. Assumes nothing.
-use Rattle.std.proofs.Common.{sym, ◌∙◌, rules}
-use Rattle.laws.proofs.Size.{wrapped, fits}
+use Rattle.std.proofs.Common.{sym, ◌∙◌}
+use Rattle.laws.proofs.Size.{wrapped}
 use Rattle.laws.specs.Choice.{if_no, if_yes}
 use Rattle.fx.proofs.turns.swung.Goals as goal
 

@@ -1,5 +1,5 @@
 -- All steps: the loop's point is that of its number of steps, small enough for the next. Assumes nothing.
-use Rattle.std.proofs.Common.{◌≡◌, ℕ, ◌+◌, ◌-◌, ◌*◌, ◌^◌, ◌<◌, ◌≤◌, get_or, nat_abs, refl, add-one, arith, to_z-of_z, rules}
+use Rattle.std.proofs.Common.{◌≡◌, ◌+◌, ◌*◌, ◌^◌, ◌≤◌, nat_abs, refl, add-one, arith, to_z-of_z}
 use Rattle.fx.specs.Cordic.{cordic_angles, cordic_start, cordic_steps}
 use Rattle.fx.proofs.Bounds.{Within, start_within, steps_within_lem, far_size}
 use Rattle.fx.proofs.turns.turned.Lts as lts

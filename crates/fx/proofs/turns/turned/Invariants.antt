@@ -1,6 +1,5 @@
-use Rattle.std.proofs.Common.{◌≡◌, ℕ, ◌+◌, ◌-◌, ◌*◌, ◌^◌, ◌<◌, ◌≤◌, get_or, nat_abs, refl, add-one, arith, to_z-of_z, rules}
-use Rattle.fx.specs.Cordic.{cordic_angles, cordic_start, cordic_steps}
-use Rattle.fx.proofs.Bounds.{Within, start_within, steps_within_lem, far_size}
+use Rattle.std.proofs.Common.{◌≡◌, ◌-◌, ◌≤◌}
+use Rattle.fx.specs.Cordic.{cordic_steps}
 use Rattle.fx.proofs.turns.turned.Given as goal
 
 abbrev pub invariant-loop-i : goal.invariant-loop-i

@@ -1,7 +1,7 @@
 -- `fx::turns::under` meets its contract. Assumes nothing.
-use Rattle.std.proofs.Common.{ℕ, ◌^◌, ◌&&◌, ltb, ap₂, to_z-of_z, rules}
+use Rattle.std.proofs.Common.{ℕ, ◌^◌, ◌&&◌, ltb, ap₂, to_z-of_z}
 use Rattle.fx.specs.Scale.{under_at}
-use Rattle.laws.proofs.Size.{at, fits, sfits_shr}
+use Rattle.laws.proofs.Size.{sfits_shr}
 use Rattle.fx.proofs.turns.under.Goals as goal
 
 pub returns : goal.returns

@@ -1,10 +1,8 @@
 -- `solve_step::back::back` meets its contract. Assumes nothing.
-use mathlib.Core.Path.{◌≡◌, refl, sym, ◌∙◌}
-use Prim.Native.Nat.{◌≤◌}
+use mathlib.Core.Path.{refl, sym, ◌∙◌}
 use borrow.Author.Rules.{rules}
 use Rattle.solve_step.proofs.Turns.{back_turn, back_ended}
-use Rattle.solve_step.specs.Back.{back_from, none_yet}
-use Rattle.solve_step.specs.Eliminate.{system_of}
+use Rattle.solve_step.specs.Back.{none_yet}
 use Rattle.solve_step.proofs.back.back.Goals as goal
 
 pub loop-r-init : goal.loop-r-init

@@ -1,7 +1,5 @@
-use mathlib.Core.Path.{◌≡◌, refl, sym, ◌∙◌}
+use mathlib.Core.Path.{◌≡◌}
 use Prim.Native.Nat.{◌≤◌}
-use borrow.Author.Rules.{rules}
-use Rattle.solve_step.proofs.Turns.{back_turn, back_ended}
 use Rattle.solve_step.specs.Back.{back_from, none_yet}
 use Rattle.solve_step.specs.Eliminate.{system_of}
 use Rattle.solve_step.proofs.back.back.Given as goal

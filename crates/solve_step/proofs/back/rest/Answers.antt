@@ -1,9 +1,7 @@
 -- `solve_step::back::rest` meets its contract. Assumes nothing.
-use mathlib.Core.Path.{◌≡◌, sym, ◌∙◌}
-use Prim.Native.Nat.{◌≤◌, ◌+◌, ◌-◌}
+use mathlib.Core.Path.{sym, ◌∙◌}
 use borrow.Author.Rules.{rules}
 use Rattle.solve_step.proofs.Turns.{rest_turn, rest_ended}
-use Rattle.solve_step.specs.Back.{rest_from}
 use Rattle.solve_step.proofs.back.rest.Goals as goal
 
 pub loop-k-preserved : goal.loop-k-preserved

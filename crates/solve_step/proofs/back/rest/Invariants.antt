@@ -1,7 +1,5 @@
-use mathlib.Core.Path.{◌≡◌, sym, ◌∙◌}
+use mathlib.Core.Path.{◌≡◌}
 use Prim.Native.Nat.{◌≤◌, ◌+◌, ◌-◌}
-use borrow.Author.Rules.{rules}
-use Rattle.solve_step.proofs.Turns.{rest_turn, rest_ended}
 use Rattle.solve_step.specs.Back.{rest_from}
 use Rattle.solve_step.proofs.back.rest.Given as goal
 

@@ -1,5 +1,4 @@
 -- `solve_step::back::unknown` meets its contract. Assumes nothing.
-use borrow.Author.Rules.{rules}
 use Rattle.solve_step.specs.Back.{unknown_at}
 use Rattle.solve_step.proofs.back.unknown.Goals as goal
 

@@ -1,9 +1,7 @@
 -- `solve_step::eliminate::eliminate` meets its contract. Assumes nothing.
-use mathlib.Core.Path.{◌≡◌, subst, sym, ◌∙◌}
-use Prim.Native.Nat.{◌≤◌, ◌-◌}
+use mathlib.Core.Path.{subst, sym, ◌∙◌}
 use borrow.Author.Rules.{rules}
 use Rattle.solve_step.proofs.Turns.{reduce_row, reduce_stop, reduce_ended}
-use Rattle.solve_step.specs.Eliminate.{system_of, reduce_from}
 use Rattle.solve_step.specs.Pivot.{InRange}
 use Rattle.solve_step.proofs.eliminate.eliminate.Goals as goal
 

@@ -1,9 +1,6 @@
-use mathlib.Core.Path.{◌≡◌, subst, sym, ◌∙◌}
+use mathlib.Core.Path.{◌≡◌}
 use Prim.Native.Nat.{◌≤◌, ◌-◌}
-use borrow.Author.Rules.{rules}
-use Rattle.solve_step.proofs.Turns.{reduce_row, reduce_stop, reduce_ended}
 use Rattle.solve_step.specs.Eliminate.{system_of, reduce_from}
-use Rattle.solve_step.specs.Pivot.{InRange}
 use Rattle.solve_step.proofs.eliminate.eliminate.Given as goal
 
 abbrev pub invariant-loop-c : goal.invariant-loop-c

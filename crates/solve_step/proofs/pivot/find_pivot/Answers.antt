@@ -1,9 +1,8 @@
 -- `solve_step::pivot::find_pivot` meets its contract. Assumes nothing.
-use mathlib.Core.Path.{◌≡◌, ap, sym, ◌∙◌}
-use Prim.Native.Nat.{◌≤◌, ◌<◌, ◌-◌}
+use mathlib.Core.Path.{ap, sym, ◌∙◌}
 use borrow.Author.Rules.{rules}
 use Rattle.solve_step.proofs.Turns.{scan_turn, scan_ended, judged_in, better_in}
-use Rattle.solve_step.specs.Pivot.{scan_from, judged_of, pivot_of}
+use Rattle.solve_step.specs.Pivot.{judged_of, pivot_of}
 use Rattle.solve_step.proofs.pivot.find_pivot.Goals as goal
 
 pub loop-r-init : goal.loop-r-init

@@ -1,7 +1,5 @@
-use mathlib.Core.Path.{◌≡◌, ap, sym, ◌∙◌}
+use mathlib.Core.Path.{◌≡◌}
 use Prim.Native.Nat.{◌≤◌, ◌<◌, ◌-◌}
-use borrow.Author.Rules.{rules}
-use Rattle.solve_step.proofs.Turns.{scan_turn, scan_ended, judged_in, better_in}
 use Rattle.solve_step.specs.Pivot.{scan_from, judged_of, pivot_of}
 use Rattle.solve_step.proofs.pivot.find_pivot.Given as goal
 

@@ -1,5 +1,4 @@
 -- `solve_step::rows::eliminate_column` meets its contract. Assumes nothing.
-use borrow.Author.Rules.{rules}
 use Rattle.solve_step.specs.Eliminate.{column_step}
 use Rattle.solve_step.proofs.rows.eliminate_column.Goals as goal
 

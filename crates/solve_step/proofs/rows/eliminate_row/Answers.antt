@@ -1,5 +1,4 @@
 -- `solve_step::rows::eliminate_row` meets its contract. Assumes nothing.
-use borrow.Author.Rules.{rules}
 use Rattle.solve_step.specs.Eliminate.{factor_of, row_step}
 use Rattle.solve_step.proofs.rows.eliminate_row.Goals as goal
 

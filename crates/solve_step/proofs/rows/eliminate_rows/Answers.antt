@@ -1,9 +1,7 @@
 -- `solve_step::rows::eliminate_rows` meets its contract. Assumes nothing.
-use mathlib.Core.Path.{◌≡◌, sym, ◌∙◌}
-use Prim.Native.Nat.{◌≤◌, ◌+◌, ◌-◌}
+use mathlib.Core.Path.{sym, ◌∙◌}
 use borrow.Author.Rules.{rules}
 use Rattle.solve_step.proofs.Turns.{rows_turn, rows_ended}
-use Rattle.solve_step.specs.Eliminate.{system_of, rows_from}
 use Rattle.solve_step.proofs.rows.eliminate_rows.Goals as goal
 
 pub loop-r-preserved : goal.loop-r-preserved

@@ -1,7 +1,5 @@
-use mathlib.Core.Path.{◌≡◌, sym, ◌∙◌}
+use mathlib.Core.Path.{◌≡◌}
 use Prim.Native.Nat.{◌≤◌, ◌+◌, ◌-◌}
-use borrow.Author.Rules.{rules}
-use Rattle.solve_step.proofs.Turns.{rows_turn, rows_ended}
 use Rattle.solve_step.specs.Eliminate.{system_of, rows_from}
 use Rattle.solve_step.proofs.rows.eliminate_rows.Given as goal
 

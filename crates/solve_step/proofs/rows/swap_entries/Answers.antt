@@ -1,5 +1,4 @@
 -- `solve_step::rows::swap_entries` meets its contract. Assumes nothing.
-use borrow.Author.Rules.{rules}
 use Rattle.solve_step.specs.Eliminate.{entry_swap}
 use Rattle.solve_step.proofs.rows.swap_entries.Goals as goal
 

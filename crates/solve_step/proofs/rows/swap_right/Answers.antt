@@ -1,5 +1,4 @@
 -- `solve_step::rows::swap_right` meets its contract. Assumes nothing.
-use borrow.Author.Rules.{rules}
 use Rattle.solve_step.specs.Eliminate.{entry_swap}
 use Rattle.solve_step.proofs.rows.swap_right.Goals as goal
 

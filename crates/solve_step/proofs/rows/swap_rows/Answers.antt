@@ -1,9 +1,7 @@
 -- `solve_step::rows::swap_rows` meets its contract. Assumes nothing.
-use mathlib.Core.Path.{◌≡◌, sym, ◌∙◌}
-use Prim.Native.Nat.{◌≤◌, ◌-◌}
+use mathlib.Core.Path.{sym, ◌∙◌}
 use borrow.Author.Rules.{rules}
 use Rattle.solve_step.proofs.Turns.{swap_turn, swap_ended}
-use Rattle.solve_step.specs.Eliminate.{swap_from}
 use Rattle.solve_step.proofs.rows.swap_rows.Goals as goal
 
 pub loop-k-preserved : goal.loop-k-preserved

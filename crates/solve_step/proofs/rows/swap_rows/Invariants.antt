@@ -1,7 +1,5 @@
-use mathlib.Core.Path.{◌≡◌, sym, ◌∙◌}
+use mathlib.Core.Path.{◌≡◌}
 use Prim.Native.Nat.{◌≤◌, ◌-◌}
-use borrow.Author.Rules.{rules}
-use Rattle.solve_step.proofs.Turns.{swap_turn, swap_ended}
 use Rattle.solve_step.specs.Eliminate.{swap_from}
 use Rattle.solve_step.proofs.rows.swap_rows.Given as goal
 

@@ -1,5 +1,4 @@
 -- `solve_step::rows::update_entry` meets its contract. Assumes nothing.
-use borrow.Author.Rules.{rules}
 use Rattle.solve_step.specs.Eliminate.{entry_step}
 use Rattle.solve_step.proofs.rows.update_entry.Goals as goal
 

@@ -1,9 +1,7 @@
 -- `solve_step::rows::update_row` meets its contract. Assumes nothing.
-use mathlib.Core.Path.{◌≡◌, sym, ◌∙◌}
-use Prim.Native.Nat.{◌≤◌, ◌-◌}
+use mathlib.Core.Path.{sym, ◌∙◌}
 use borrow.Author.Rules.{rules}
 use Rattle.solve_step.proofs.Turns.{row_turn, row_ended}
-use Rattle.solve_step.specs.Eliminate.{row_from}
 use Rattle.solve_step.proofs.rows.update_row.Goals as goal
 
 pub loop-k-preserved : goal.loop-k-preserved

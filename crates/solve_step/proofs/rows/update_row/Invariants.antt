@@ -1,7 +1,5 @@
-use mathlib.Core.Path.{◌≡◌, sym, ◌∙◌}
+use mathlib.Core.Path.{◌≡◌}
 use Prim.Native.Nat.{◌≤◌, ◌-◌}
-use borrow.Author.Rules.{rules}
-use Rattle.solve_step.proofs.Turns.{row_turn, row_ended}
 use Rattle.solve_step.specs.Eliminate.{row_from}
 use Rattle.solve_step.proofs.rows.update_row.Given as goal
 

@@ -1,6 +1,5 @@
 use Rattle.laws.specs.Choice.{cases}
 use Rattle.sync_lock.specs.Period.{leak_of}
-use borrow.Author.Rules.{rules}
 use Rattle.sync_lock.proofs.plain.leak.Goals as goal
 
 pub returns : goal.returns

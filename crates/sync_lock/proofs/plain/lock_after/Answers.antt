@@ -1,6 +1,5 @@
 use Rattle.laws.specs.Choice.{cases}
 use Rattle.sync_lock.specs.Rule.{lock_after}
-use borrow.Author.Rules.{rules}
 use Rattle.sync_lock.proofs.plain.lock_after.Goals as goal
 
 pub returns-in-Seeks : goal.returns-in-Seeks

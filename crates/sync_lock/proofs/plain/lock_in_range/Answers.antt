@@ -1,5 +1,4 @@
 use Rattle.sync_lock.specs.Ranges.{lock_in_range}
-use borrow.Author.Rules.{rules}
 use Rattle.sync_lock.proofs.plain.lock_in_range.Goals as goal
 
 pub returns-in-Search : goal.returns-in-Search

@@ -1,6 +1,5 @@
 use Rattle.laws.specs.Choice.{cases}
 use Rattle.sync_lock.specs.Rule.{locked_at}
-use borrow.Author.Rules.{rules}
 use Rattle.sync_lock.proofs.plain.locked_at.Goals as goal
 
 pub returns-in-Search : goal.returns-in-Search

@@ -1,6 +1,5 @@
 use Rattle.laws.specs.Choice.{cases}
 use Rattle.sync_lock.specs.Rule.{held_of}
-use borrow.Author.Rules.{rules}
 use Rattle.sync_lock.proofs.ranged.held.Goals as goal
 
 pub returns-then-good : goal.returns-then-good

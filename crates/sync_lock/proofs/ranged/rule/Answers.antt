@@ -1,6 +1,4 @@
-use Rattle.laws.proofs.Size.{at}
 use Rattle.sync_lock.specs.Rule.{rule_of}
-use borrow.Author.Rules.{rules}
 use Rattle.sync_lock.proofs.ranged.rule.Goals as goal
 
 pub search-requires : goal.search-requires

@@ -1,6 +1,5 @@
 use Rattle.laws.specs.Choice.{cases}
 use Rattle.sync_lock.specs.Rule.{search_of}
-use borrow.Author.Rules.{rules}
 use Rattle.sync_lock.proofs.ranged.search.Goals as goal
 
 pub returns-then-n-lt4 : goal.returns-then-n-lt4

@@ -1,6 +1,5 @@
 -- `solve_step::complex::Complex::subtract` meets its contract. Assumes nothing.
 use lib.Ieee.{sub}
-use borrow.Author.Rules.{rules}
 use Rattle.solve_step.proofs.complex.Complex.subtract.Goals as goal
 
 pub returns : goal.returns
