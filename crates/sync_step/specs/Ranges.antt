@@ -1,5 +1,5 @@
 -- The ranges of docs/RANGES.md, "Slot sync", and what the step needs of a run; the ranges and an accepted position imply it.
-use Rattle.std.specs.Prelude.{ℕ, ◌+◌, ◌≤◌, ◌<◌, ◌^◌, Bool, ◌&&◌, leb}
+use Rattle.std.specs.Prelude.{◌+◌, ◌≤◌, ◌<◌, ◌^◌, Bool, ◌&&◌, leb}
 use Rattle.sync_lock.specs.Ranges.{tally_in_range, lock_in_range, Lockable}
 use Rattle.sync_heads.specs.Ranges.{stage_in_range, course_in_range}
 use Rattle.sync_heads.specs.Ready.{StageOk, CourseOk}

@@ -1,6 +1,5 @@
 use Rattle.laws.specs.Choice.{cases}
 use Rattle.sync_step.specs.Step.{ended_of}
-use borrow.Author.Rules.{rules}
 use Rattle.sync_step.proofs.ends.ended.Goals as goal
 
 pub returns-then-loses : goal.returns-then-loses

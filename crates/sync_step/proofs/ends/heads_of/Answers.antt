@@ -1,5 +1,4 @@
 use Rattle.sync_step.specs.Events.{heads_of}
-use borrow.Author.Rules.{rules}
 use Rattle.sync_step.proofs.ends.heads_of.Goals as goal
 
 pub returns : goal.returns

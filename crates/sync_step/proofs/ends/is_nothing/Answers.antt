@@ -1,6 +1,5 @@
 use Rattle.laws.specs.Choice.{cases}
 use Rattle.sync_step.specs.Events.{is_nothing}
-use borrow.Author.Rules.{rules}
 use Rattle.sync_step.proofs.ends.is_nothing.Goals as goal
 
 pub returns-in-Nothing : goal.returns-in-Nothing

@@ -1,6 +1,5 @@
 use Rattle.laws.specs.Choice.{cases}
 use Rattle.sync_step.specs.Step.{loses_of}
-use borrow.Author.Rules.{rules}
 use Rattle.sync_step.proofs.ends.loses.Goals as goal
 
 pub returns-in-Seeks : goal.returns-in-Seeks

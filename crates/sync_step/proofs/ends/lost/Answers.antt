@@ -1,5 +1,4 @@
 use Rattle.sync_step.specs.Step.{lost_of}
-use borrow.Author.Rules.{rules}
 use Rattle.sync_step.proofs.ends.lost.Goals as goal
 
 pub returns : goal.returns

@@ -1,5 +1,4 @@
 use Rattle.sync_step.specs.Step.{lost_at_end}
-use borrow.Author.Rules.{rules}
 use Rattle.sync_step.proofs.ends.lost_at_end.Goals as goal
 
 pub returns : goal.returns

@@ -1,6 +1,5 @@
 use Rattle.laws.specs.Choice.{cases}
 use Rattle.sync_step.specs.Step.{parity_of}
-use borrow.Author.Rules.{rules}
 use Rattle.sync_step.proofs.ends.parity.Goals as goal
 
 pub returns-in-Before : goal.returns-in-Before

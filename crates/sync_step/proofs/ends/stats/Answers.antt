@@ -1,5 +1,4 @@
 use Rattle.sync_step.specs.Step.{is_locked, offset_of, stats_of}
-use borrow.Author.Rules.{rules}
 use Rattle.sync_step.proofs.ends.stats.Goals as goal
 
 pub returns-in-Search : goal.returns-in-Search

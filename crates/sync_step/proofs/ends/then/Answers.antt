@@ -1,6 +1,5 @@
 use Rattle.laws.specs.Choice.{cases}
 use Rattle.sync_step.specs.Events.{then_of}
-use borrow.Author.Rules.{rules}
 use Rattle.sync_step.proofs.ends.then.Goals as goal
 
 pub returns-then-is_nothing : goal.returns-then-is_nothing

@@ -1,5 +1,4 @@
 use Rattle.sync_step.specs.Ranges.{run_in_range}
-use borrow.Author.Rules.{rules}
 use Rattle.sync_step.proofs.plain.in_range.Goals as goal
 
 pub returns : goal.returns

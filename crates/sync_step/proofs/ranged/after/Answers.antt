@@ -1,5 +1,4 @@
 use Rattle.sync_step.specs.Step.{after_of}
-use borrow.Author.Rules.{rules}
 use Rattle.sync_step.proofs.ranged.after.Goals as goal
 
 pub returns : goal.returns

@@ -1,5 +1,4 @@
 use Rattle.sync_step.specs.Step.{early_of}
-use borrow.Author.Rules.{rules}
 use Rattle.sync_step.proofs.ranged.early.Goals as goal
 
 pub returns : goal.returns

@@ -2,7 +2,6 @@
 use Rattle.laws.specs.Choice.{cases}
 use Rattle.sync_step.proofs.Laws.{after_ready}
 use Rattle.sync_step.specs.Step.{late_of}
-use borrow.Author.Rules.{rules}
 use Rattle.sync_step.proofs.ranged.late.Goals as goal
 
 pub ended-requires : goal.ended-requires

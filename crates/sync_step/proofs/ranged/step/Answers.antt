@@ -1,6 +1,5 @@
 use Rattle.laws.specs.Choice.{cases}
 use Rattle.sync_step.specs.Step.{step_of}
-use borrow.Author.Rules.{rules}
 use Rattle.sync_step.proofs.ranged.step.Goals as goal
 
 pub returns-then-r-lt23 : goal.returns-then-r-lt23

@@ -1,6 +1,5 @@
 use Rattle.laws.specs.Choice.{cases}
 use Rattle.sync_step.specs.Step.{reading_of, taken_of}
-use borrow.Author.Rules.{rules}
 use Rattle.sync_step.proofs.ranged.taken.Goals as goal
 
 pub returns-then-locked_at : goal.returns-then-locked_at
