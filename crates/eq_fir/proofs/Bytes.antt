@@ -11,7 +11,7 @@ use lib.IntN.{◌+ℤ◌, ◌*ℤ◌, ◌-ℤ◌, nat_abs, negsuc, pos, ℤ}
 use lib.Signed.{mag, shr_z}
 use mathlib.Core.List.{List, [], ◌++◌, ◌∷◌, append_assoc}
 use mathlib.Core.Logic.{⊎_elim}
-use mathlib.Core.Path.{◌∙◌, ◌≡◌, ap, refl, sym}
+use mathlib.Core.Path.{◌∙◌, ◌≡◌, refl, sym}
 use mir.Facts.{to_z-of_z}
 use mir.Syntax.{w16, w32}
 use mir.Val.{SFits, of_z, to_z}
@@ -48,29 +48,26 @@ pub two-zeros : (f : ℕ → ℤ) (n : ℕ) → f n ≡ pos 0 → f (suc n) ≡ 
 unfolding firsts
 two-zeros f n x y = rw (x, y) (sym (append_assoc (firsts f n) (pos 0 ∷ []) (pos 0 ∷ [])))
 
--- ---- v has the bits of the sum of the first n products with the row at b
-pub record Sum (line rows : List ℤ) (b n v : ℕ) : Type 0 where
-  pub is : v ≡ of_z w32 (dot_to line rows b n)
+-- ---- v is the sum of the first n products with the row at b
+pub record Sum (line rows : List ℤ) (b n : ℕ) (v : ℤ) : Type 0 where
+  pub is : v ≡ dot_to line rows b n
   pub small : nat_abs (dot_to line rows b n) ≤ 2 ^ 23 * n
 
-pub none : (line rows : List ℤ) (b : ℕ) → Sum line rows b 0 0
+pub none : (line rows : List ℤ) (b : ℕ) → Sum line rows b 0 (pos 0)
 unfolding dot_to
 none line rows b = record { is = refl; small = omega arith }
 
-pub read_sum : {line rows : List ℤ} {b n v : ℕ} → Sum line rows b n v → n ≤ 24 → Num (to_z w32 v) (dot_to line rows b n) (2 ^ 23 * n)
-read_sum {line} {rows} {b} {n} s h =
-    record {
-      is = ap (to_z w32) s.is ∙ to_z-of_z (sfits_abs w32 (dot_to line rows b n) (omega (arith, s.small)));
-      size = s.small;
-    }
+pub read_sum : {line rows : List ℤ} {b n : ℕ} {v : ℤ} → Sum line rows b n v → n ≤ 24 → Num v (dot_to line rows b n) (2 ^ 23 * n)
+read_sum s h = record { is = s.is; size = s.small }
 
-pub asked : {line rows : List ℤ} {b n v : ℕ} (j : ℕ) → Sum line rows b n v → n < 24 → Bytes rows → j < 96 → SFits w16 (nth rows j) →
-    (nat_abs (to_z w32 v) ≤ 2 ^ 28) × (nat_abs (to_z w16 (of_z w16 (nth rows j))) ≤ 255)
+pub asked : {line rows : List ℤ} {b n : ℕ} {v : ℤ} (j : ℕ) → Sum line rows b n v → n < 24 → Bytes rows → j < 96 → SFits w16 (nth rows j) →
+    (nat_abs (v) ≤ 2 ^ 28) × (nat_abs (to_z w16 (of_z w16 (nth rows j))) ≤ 255)
 asked j s h u k f = rw ((read_sum s (le_of_lt h)).is, to_z-of_z f) (omega (arith, s.small), u.small j k)
 
-pub more : {line rows : List ℤ} {b n v : ℕ} (j : ℕ) (r : ℤ) → j ≡ b + n → Sum line rows b n v → n < 24 → Bytes rows → j < 96 → SFits w16 (nth line n) → SFits w16 (nth rows j) →
-    r ≡ to_z w32 v +ℤ to_z w16 (of_z w16 (nth line n)) *ℤ to_z w16 (of_z w16 (nth rows j)) → Sum line rows b (n + 1) (of_z w32 r)
+pub more : {line rows : List ℤ} {b n : ℕ} {v : ℤ} (j : ℕ) (r : ℤ) → j ≡ b + n → Sum line rows b n v → n < 24 → Bytes rows → j < 96 → SFits w16 (nth line n) → SFits w16 (nth rows j) →
+    r ≡ v +ℤ to_z w16 (of_z w16 (nth line n)) *ℤ to_z w16 (of_z w16 (nth rows j)) → Sum line rows b (n + 1) (to_z w32 (of_z w32 r))
 unfolding dot_to
 more {n = n} j r i s h u k x y e =
     let next = plus (read_sum s (le_of_lt h)) (times (arg x) (arg_le 255 y (u.small j k))) in
-    record { is = rw (e, next.is, add-one n, i); small = rw (add-one n, ← i) (omega (arith, next.size)) }
+    let f : SFits w32 r = sfits_abs w32 r (rw (e, next.is) (omega (arith, next.size))) in
+    record { is = to_z-of_z f ∙ rw (e, next.is, add-one n, i); small = rw (add-one n, ← i) (omega (arith, next.size)) }

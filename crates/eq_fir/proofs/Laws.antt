@@ -2,7 +2,7 @@
 use Prim.Native.Nat.{◌+◌, ◌*◌, ◌-◌, ◌<◌, ◌^◌, ◌≤◌, suc, ℕ}
 use Rattle.eq_fir.specs.Fir.{filtered, nth, term_added}
 use Rattle.laws.proofs.Size.{sfits_abs}
-use lib.IntN.{nat_abs, ℤ, ◌+ℤ◌, ◌-ℤ◌, ◌*ℤ◌}
+use lib.IntN.{nat_abs, pos, ℤ, ◌+ℤ◌, ◌-ℤ◌, ◌*ℤ◌}
 use lib.ListN.{get_or-append, drop, drop_of_length-le, get_or, length, set, take}
 use lib.Seq.{drop-cons, get_or-take, length-take-le, set_at, take_all, take-suc}
 use mathlib.Core.List.{List, [], ◌++◌, ◌∷◌, append_assoc, append-nil}
@@ -48,19 +48,19 @@ module _ {A : Type 0} where
       no n h = omega arith
   moved-end (x ∷ y ∷ l) n a b h = refl
 
--- v has the bits of a sum of n products of two parts
-pub record Summed (z : ℤ) (n v : ℕ) : Type 0 where
-  pub is : v ≡ of_z w64 z
+-- v is a sum of n products of two parts
+pub record Summed (z : ℤ) (n : ℕ) (v : ℤ) : Type 0 where
+  pub is : v ≡ z
   pub small : nat_abs z ≤ 2 ^ 31 * n
 
-pub read : {z : ℤ} {n v : ℕ} → Summed z n v → n ≤ 11 → to_z w64 v ≡ z
-read {z} {n} {v} s h = ap (to_z w64) s.is ∙ to_z-of_z (sfits_abs w64 z (omega (arith, s.small)))
+pub read : {z v : ℤ} {n : ℕ} → Summed z n v → n ≤ 11 → v ≡ z
+read s h = s.is
 
-pub none_re : (taps line : List ℤ) → Summed (filtered taps line 0).re 0 0
+pub none_re : (taps line : List ℤ) → Summed (filtered taps line 0).re 0 (pos 0)
 unfolding filtered
 none_re taps line = record { is = refl; small = omega arith }
 
-pub none_im : (taps line : List ℤ) → Summed (filtered taps line 0).im 0 0
+pub none_im : (taps line : List ℤ) → Summed (filtered taps line 0).im 0 (pos 0)
 unfolding filtered
 none_im taps line = record { is = refl; small = omega arith }
 
@@ -75,24 +75,24 @@ pub record Four (taps line : List ℤ) (n : ℕ) : Type 0 where
   pub xr : SFits w16 (nth line (2 * n))
   pub xi : SFits w16 (nth line (2 * n + 1))
 
-pub more_re : (taps line : List ℤ) (n v : ℕ) (r : ℤ) → Four taps line n → Summed (filtered taps line n).re n v → n < 11 →
-    r ≡ to_z w64 v +ℤ (held (nth taps (2 * n)) *ℤ held (nth line (2 * n)) -ℤ held (nth taps (2 * n + 1)) *ℤ held (nth line (2 * n + 1))) →
-    nat_abs r ≤ nat_abs (to_z w64 v) + 2 ^ 31 → Summed (filtered taps line (n + 1)).re (n + 1) (of_z w64 r)
+pub more_re : (taps line : List ℤ) (n : ℕ) (v r : ℤ) → Four taps line n → Summed (filtered taps line n).re n v → n < 11 →
+    r ≡ v +ℤ (held (nth taps (2 * n)) *ℤ held (nth line (2 * n)) -ℤ held (nth taps (2 * n + 1)) *ℤ held (nth line (2 * n + 1))) →
+    nat_abs r ≤ nat_abs v + 2 ^ 31 → Summed (filtered taps line (n + 1)).re (n + 1) (to_z w64 (of_z w64 r))
 unfolding filtered term_added
 more_re taps line n v r f s h e k =
     let x = read s (omega arith) in
     let y : r ≡ (filtered taps line n).re +ℤ (nth taps (2 * n) *ℤ nth line (2 * n) -ℤ nth taps (2 * n + 1) *ℤ nth line (2 * n + 1)) =
     rw (to_z-of_z f.wr, to_z-of_z f.wi, to_z-of_z f.xr, to_z-of_z f.xi, x) at e in
     let z = rw x at k in
-    rw (add-one n, ← y) (record { is = refl; small = omega (arith, z, s.small) })
+    rw (add-one n, ← y) (record { is = to_z-of_z (sfits_abs w64 r (omega (arith, z, y, s.small))); small = omega (arith, z, s.small) })
 
-pub more_im : (taps line : List ℤ) (n v : ℕ) (r : ℤ) → Four taps line n → Summed (filtered taps line n).im n v → n < 11 →
-    r ≡ to_z w64 v +ℤ (held (nth taps (2 * n)) *ℤ held (nth line (2 * n + 1)) +ℤ held (nth taps (2 * n + 1)) *ℤ held (nth line (2 * n))) →
-    nat_abs r ≤ nat_abs (to_z w64 v) + 2 ^ 31 → Summed (filtered taps line (n + 1)).im (n + 1) (of_z w64 r)
+pub more_im : (taps line : List ℤ) (n : ℕ) (v r : ℤ) → Four taps line n → Summed (filtered taps line n).im n v → n < 11 →
+    r ≡ v +ℤ (held (nth taps (2 * n)) *ℤ held (nth line (2 * n + 1)) +ℤ held (nth taps (2 * n + 1)) *ℤ held (nth line (2 * n))) →
+    nat_abs r ≤ nat_abs v + 2 ^ 31 → Summed (filtered taps line (n + 1)).im (n + 1) (to_z w64 (of_z w64 r))
 unfolding filtered term_added
 more_im taps line n v r f s h e k =
     let x = read s (omega arith) in
     let y : r ≡ (filtered taps line n).im +ℤ (nth taps (2 * n) *ℤ nth line (2 * n + 1) +ℤ nth taps (2 * n + 1) *ℤ nth line (2 * n)) =
     rw (to_z-of_z f.wr, to_z-of_z f.wi, to_z-of_z f.xr, to_z-of_z f.xi, x) at e in
     let z = rw x at k in
-    rw (add-one n, ← y) (record { is = refl; small = omega (arith, z, s.small) })
+    rw (add-one n, ← y) (record { is = to_z-of_z (sfits_abs w64 r (omega (arith, z, y, s.small))); small = omega (arith, z, s.small) })

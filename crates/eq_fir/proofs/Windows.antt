@@ -24,10 +24,10 @@ pub window_at_lem : (l : List ℤ) (at k : ℕ) → k < 24 → nth (padded (drop
 window_at_lem l at k h = padded-at (drop at l) k h ∙ get_or-drop at l k (pos 0)
 
 -- a turn, by a number that the line has at this place
-pub more_by : {line rows : List ℤ} {b n v : ℕ} (x : ℤ) (j : ℕ) (r : ℤ) → nth line n ≡ x → j ≡ b + n → Sum line rows b n v → n < 24 → Bytes rows → j < 96 → SFits w16 x → SFits w16 (nth rows j) →
-    r ≡ to_z w32 v +ℤ to_z w16 (of_z w16 x) *ℤ to_z w16 (of_z w16 (nth rows j)) → Sum line rows b (n + 1) (of_z w32 r)
+pub more_by : {line rows : List ℤ} {b n : ℕ} {v : ℤ} (x : ℤ) (j : ℕ) (r : ℤ) → nth line n ≡ x → j ≡ b + n → Sum line rows b n v → n < 24 → Bytes rows → j < 96 → SFits w16 x → SFits w16 (nth rows j) →
+    r ≡ v +ℤ to_z w16 (of_z w16 x) *ℤ to_z w16 (of_z w16 (nth rows j)) → Sum line rows b (n + 1) (to_z w32 (of_z w32 r))
 more_by {line} {rows} {b} {n} {v} x j r g i s h u k f y e =
-    more j r i s h u k (subst (SFits w16) (sym g) f) y (e ∙ ap (λ (z : ℤ). to_z w32 v +ℤ to_z w16 (of_z w16 z) *ℤ to_z w16 (of_z w16 (nth rows j))) (sym g))
+    more j r i s h u k (subst (SFits w16) (sym g) f) y (e ∙ ap (λ (z : ℤ). v +ℤ to_z w16 (of_z w16 z) *ℤ to_z w16 (of_z w16 (nth rows j))) (sym g))
 
 -- ---- what the last two numbers are multiplied by
 none : (high : Bool) → byte_of high (pos 0) ≡ pos 0

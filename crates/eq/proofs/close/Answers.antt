@@ -1,6 +1,5 @@
 use Rattle.eq.specs.Answers.{close_answer}
 use Rattle.laws.specs.Choice.{cases}
-use borrow.Author.Rules.{rules}
 use Rattle.eq.proofs.close.Goals as goal
 
 pub returns-then-opened : goal.returns-then-opened

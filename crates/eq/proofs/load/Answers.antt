@@ -1,6 +1,5 @@
 use Rattle.eq.specs.Answers.{load_answer}
 use Rattle.laws.specs.Choice.{cases}
-use borrow.Author.Rules.{rules}
 use Rattle.eq.proofs.load.Goals as goal
 
 pub returns-then-in_range : goal.returns-then-in_range

@@ -1,6 +1,5 @@
 use Rattle.eq_fir.specs.Fir.{identity_taps}
 use Rattle.eq.specs.Eq.{new_eq}
-use borrow.Author.Rules.{rules}
 use Rattle.eq.proofs.new.Goals as goal
 
 pub returns : goal.returns

@@ -1,6 +1,5 @@
 use Rattle.eq.specs.Answers.{open_answer}
 use Rattle.laws.specs.Choice.{cases}
-use borrow.Author.Rules.{rules}
 use Rattle.eq.proofs.open.Goals as goal
 
 pub returns-then-in_range : goal.returns-then-in_range

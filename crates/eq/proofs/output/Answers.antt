@@ -1,6 +1,5 @@
 use Rattle.eq.specs.Answers.{output_answer}
 use Rattle.laws.specs.Choice.{cases}
-use borrow.Author.Rules.{rules}
 use Rattle.eq.proofs.output.Goals as goal
 
 pub returns-then-in_range : goal.returns-then-in_range

@@ -1,6 +1,5 @@
 use Rattle.eq.specs.Answers.{push_answer}
 use Rattle.laws.specs.Choice.{cases}
-use borrow.Author.Rules.{rules}
 use mir.Facts.{to_z-of_z}
 use Rattle.eq.proofs.push.Goals as goal
 

@@ -1,13 +1,12 @@
 use Rattle.eq.proofs.Laws.{taking, train_ok}
 use Rattle.eq.specs.Answers.{train_answer}
 use Rattle.laws.specs.Choice.{cases}
-use borrow.Author.Rules.{rules}
 use mathlib.Core.Path.{◌∙◌, sym}
 use mir.Facts.{to_z-of_z}
 use Rattle.eq.proofs.train.Goals as goal
 
 pub trained-requires : goal.trained-requires
-trained-requires c =    train_ok c.args.e (taking c.args.e (sym c.train_refusal-n.ensures ∙ c.if-n-eq0.true))
+trained-requires c = train_ok c.args.e (taking c.args.e (sym c.train_refusal-n.ensures ∙ c.if-n-eq0.true))
 
 pub returns-then-n-eq0 : goal.returns-then-n-eq0
 unfolding train_answer

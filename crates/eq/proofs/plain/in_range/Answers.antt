@@ -2,7 +2,6 @@ use Rattle.eq_train.specs.Ranges.{sums_in_range}
 use Rattle.eq.proofs.Laws.{and_true}
 use Rattle.eq.specs.Ranges.{eq_in_range}
 use Rattle.laws.specs.Choice.{cases, if_no}
-use borrow.Author.Rules.{rules}
 use lib.Dec.{leb}
 use mathlib.Core.Bool.{true}
 use mathlib.Core.Path.{sym}

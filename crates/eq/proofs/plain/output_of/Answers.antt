@@ -1,6 +1,5 @@
 use Rattle.eq.specs.Eq.{output_at}
 use Rattle.laws.specs.Choice.{cases}
-use borrow.Author.Rules.{rules}
 use Rattle.eq.proofs.plain.output_of.Goals as goal
 
 pub returns-then-e-gt5 : goal.returns-then-e-gt5

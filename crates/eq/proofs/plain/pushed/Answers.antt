@@ -1,6 +1,5 @@
 use Prim.Native.Nat.{◌+◌, min}
 use Rattle.eq.specs.Eq.{pushed_eq}
-use borrow.Author.Rules.{rules}
 use mathlib.Core.Path.{◌≡◌}
 use mir.Facts.{to_z-of_z}
 use native.Mathlib.Omega.{arith}

@@ -1,6 +1,5 @@
 use Rattle.eq_fir.specs.Fir.{no_line}
 use Rattle.eq.specs.Eq.{started_eq}
-use borrow.Author.Rules.{rules}
 use Rattle.eq.proofs.plain.started.Goals as goal
 
 pub returns : goal.returns

@@ -1,7 +1,6 @@
 use Rattle.eq.specs.Answers.{train_refusal}
 use Rattle.eq.specs.Eq.{trains_eq}
 use Rattle.laws.specs.Choice.{cases}
-use borrow.Author.Rules.{rules}
 use Rattle.eq.proofs.plain.train_refusal.Goals as goal
 
 pub returns-then-opened-e : goal.returns-then-opened-e

@@ -3,7 +3,6 @@ use Prim.Native.Nat.{◌<◌, ◌^◌}
 use Rattle.eq_fir.specs.Fir.{output_of}
 use Rattle.fx.specs.Fx.{round_shift, sat16_of}
 use Rattle.laws.proofs.Size.{back}
-use borrow.Author.Rules.{rules}
 use lib.IntN.{ℤ}
 use lib.Signed.{mag}
 use mathlib.Core.Path.{◌≡◌}

@@ -3,7 +3,6 @@ use Prim.Native.Nat.{◌-◌, ◌<◌, ◌^◌, ◌≤◌, suc, ℕ}
 use Rattle.eq_fir.proofs.Laws.{moved-end, moved-read, moved-start, moved-step}
 use Rattle.eq_fir.specs.Fir.{line_after}
 use Rattle.laws.proofs.Size.{back}
-use borrow.Author.Rules.{rules}
 use lib.IntN.{pos, ℤ}
 use lib.ListN.{drop, get_or, set, take}
 use lib.Signed.{mag}

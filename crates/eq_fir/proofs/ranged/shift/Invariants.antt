@@ -1,16 +1,7 @@
-use Prim.Native.Nat.{◌-◌, ◌<◌, ◌^◌, ◌≤◌, suc, ℕ}
-use Rattle.eq_fir.proofs.Laws.{moved-end, moved-read, moved-start, moved-step}
-use Rattle.eq_fir.specs.Fir.{line_after}
-use Rattle.laws.proofs.Size.{back}
-use borrow.Author.Rules.{rules}
-use lib.IntN.{pos, ℤ}
-use lib.ListN.{drop, get_or, set, take}
-use lib.Signed.{mag}
-use mathlib.Core.List.{List, ◌++◌}
-use mathlib.Core.Path.{◌∙◌, ◌≡◌, ap}
-use mir.Facts.{to_z-of_z}
-use mir.Syntax.{w16}
-use native.Mathlib.Omega.{arith}
+use Prim.Native.Nat.{◌-◌, ◌≤◌, suc}
+use lib.ListN.{drop, take}
+use mathlib.Core.List.{◌++◌}
+use mathlib.Core.Path.{◌≡◌}
 use Rattle.eq_fir.proofs.ranged.shift.Given as goal
 
 abbrev pub invariant-loop-k : goal.invariant-loop-k

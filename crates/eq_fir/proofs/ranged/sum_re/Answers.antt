@@ -1,8 +1,5 @@
 -- The sum of the products so far has at most 2^31 for each. Assumes nothing.
-use Prim.Native.Nat.{◌-◌, ◌≤◌}
-use Rattle.eq_fir.proofs.Laws.{Four, Summed, more_re, none_re, read}
-use Rattle.eq_fir.specs.Fir.{filtered}
-use borrow.Author.Rules.{rules}
+use Rattle.eq_fir.proofs.Laws.{Four, more_re, none_re, read}
 use mathlib.Core.Path.{◌≡◌, refl}
 use native.Mathlib.Omega.{arith}
 use Rattle.eq_fir.proofs.ranged.sum_re.Goals as goal
@@ -20,7 +17,7 @@ loop-k-preserved c =
     let t = c.loop-k-test.true in
     let f : Four o.taps.now o.line.now c.loop-k.k =
     record { wr = record { sfits = c.add_re-arg-1.given }; wi = record { sfits = c.add_re-arg-in-loop-k-1.given }; xr = record { sfits = c.add_re-arg-in-loop-k-2-1.given }; xi = record { sfits = c.add_re-arg-in-loop-k-3-1.given } } in
-    (omega (arith, t), more_re o.taps.now o.line.now c.loop-k.k c.loop-k.a c.add_re-a.result f c.loop-k.invariant.1 t c.add_re-a.ensures.0 c.add_re-a.ensures.1)
+    (omega (arith, t), more_re o.taps.now o.line.now c.loop-k.k _ c.add_re-a.result f c.loop-k.invariant.1 t c.add_re-a.ensures.0 c.add_re-a.ensures.1)
 
 pub returns : goal.returns
 returns c =

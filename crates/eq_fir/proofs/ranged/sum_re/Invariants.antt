@@ -1,9 +1,6 @@
 use Prim.Native.Nat.{◌-◌, ◌≤◌}
-use Rattle.eq_fir.proofs.Laws.{Four, Summed, more_re, none_re, read}
+use Rattle.eq_fir.proofs.Laws.{Summed}
 use Rattle.eq_fir.specs.Fir.{filtered}
-use borrow.Author.Rules.{rules}
-use mathlib.Core.Path.{◌≡◌, refl}
-use native.Mathlib.Omega.{arith}
 use Rattle.eq_fir.proofs.ranged.sum_re.Given as goal
 
 abbrev pub invariant-loop-k : goal.invariant-loop-k

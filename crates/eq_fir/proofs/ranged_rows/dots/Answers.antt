@@ -1,9 +1,8 @@
 -- Each of the four sums is that of the products so far, and grows by less than 2^23 a turn. Assumes nothing.
-use Prim.Native.Nat.{◌+◌, ◌-◌, ◌≤◌}
-use Rattle.eq_fir.proofs.Bytes.{Sum, asked, more, none, read_sum}
+use Prim.Native.Nat.{◌+◌}
+use Rattle.eq_fir.proofs.Bytes.{asked, more, none, read_sum}
 use Rattle.eq_fir.specs.Fir.{nth}
 use Rattle.eq_fir.specs.Rows.{dots_of}
-use borrow.Author.Rules.{rules}
 use mathlib.Core.Path.{◌≡◌, refl, sym}
 use mir.Syntax.{w16}
 use mir.Val.{SFits}

@@ -1,14 +1,5 @@
-use Prim.Native.Nat.{◌+◌, ◌-◌, ◌≤◌}
-use Rattle.eq_fir.proofs.Bytes.{Sum, asked, more, none, read_sum}
-use Rattle.eq_fir.specs.Fir.{nth}
-use Rattle.eq_fir.specs.Rows.{dots_of}
-use borrow.Author.Rules.{rules}
-use mathlib.Core.Path.{◌≡◌, refl, sym}
-use mir.Syntax.{w16}
-use mir.Val.{SFits}
-use native.Mathlib.Nat.{zero-add}
-use native.Mathlib.Numerals.{add-one}
-use native.Mathlib.Omega.{arith}
+use Prim.Native.Nat.{◌-◌, ◌≤◌}
+use Rattle.eq_fir.proofs.Bytes.{Sum}
 use Rattle.eq_fir.proofs.ranged_rows.dots.Given as goal
 
 abbrev pub invariant-loop-k : goal.invariant-loop-k

@@ -1,11 +1,9 @@
 -- As in `dots`, each of the four sums is that of the products so far, and grows by less than 2^23 a turn. Assumes nothing.
-use Prim.Native.Nat.{◌+◌, ◌-◌, ◌≤◌}
-use Rattle.eq_fir.proofs.Bytes.{Sum, asked, none, read_sum}
+use Prim.Native.Nat.{◌+◌}
+use Rattle.eq_fir.proofs.Bytes.{asked, none, read_sum}
 use Rattle.eq_fir.proofs.Windows.{more_by, window_at_lem}
 use Rattle.eq_fir.specs.Fir.{nth}
-use Rattle.eq_fir.specs.Rows.{dots_of, padded}
-use borrow.Author.Rules.{rules}
-use lib.ListN.{drop}
+use Rattle.eq_fir.specs.Rows.{dots_of}
 use mathlib.Core.Path.{◌≡◌, refl, sym}
 use mir.Syntax.{w16}
 use mir.Val.{SFits}

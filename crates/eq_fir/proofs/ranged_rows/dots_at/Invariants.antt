@@ -1,16 +1,7 @@
-use Prim.Native.Nat.{◌+◌, ◌-◌, ◌≤◌}
-use Rattle.eq_fir.proofs.Bytes.{Sum, asked, none, read_sum}
-use Rattle.eq_fir.proofs.Windows.{more_by, window_at_lem}
-use Rattle.eq_fir.specs.Fir.{nth}
-use Rattle.eq_fir.specs.Rows.{dots_of, padded}
-use borrow.Author.Rules.{rules}
+use Prim.Native.Nat.{◌-◌, ◌≤◌}
+use Rattle.eq_fir.proofs.Bytes.{Sum}
+use Rattle.eq_fir.specs.Rows.{padded}
 use lib.ListN.{drop}
-use mathlib.Core.Path.{◌≡◌, refl, sym}
-use mir.Syntax.{w16}
-use mir.Val.{SFits}
-use native.Mathlib.Nat.{zero-add}
-use native.Mathlib.Numerals.{add-one}
-use native.Mathlib.Omega.{arith}
 use Rattle.eq_fir.proofs.ranged_rows.dots_at.Given as goal
 
 abbrev pub invariant-loop-k : goal.invariant-loop-k

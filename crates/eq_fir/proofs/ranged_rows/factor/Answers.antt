@@ -3,7 +3,6 @@ use Prim.Native.Nat.{◌≤◌}
 use Rattle.eq_fir.specs.Rows.{factor_at}
 use Rattle.laws.proofs.Size.{abs_neg, back, sfits_abs}
 use Rattle.laws.specs.Choice.{cases}
-use borrow.Author.Rules.{rules}
 use lib.IntN.{nat_abs, neg_ℤ, +ℤ_idl}
 use mathlib.Core.Path.{◌∙◌, ap}
 use mir.Facts.{to_z-of_z}

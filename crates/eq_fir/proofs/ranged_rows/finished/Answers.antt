@@ -1,7 +1,6 @@
 -- The sum of two numbers of 32 bits, one of them times 256, is far from 2^60. Assumes nothing.
 use Rattle.eq_fir.specs.Rows.{finished_of}
 use Rattle.laws.proofs.Size.{arg, at, back, fits, lit, plus, times}
-use borrow.Author.Rules.{rules}
 use mir.Syntax.{w16, w64}
 use native.Mathlib.Omega.{arith}
 use Rattle.eq_fir.proofs.ranged_rows.finished.Goals as goal

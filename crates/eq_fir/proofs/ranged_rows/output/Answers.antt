@@ -2,7 +2,6 @@
 use Prim.Native.Nat.{◌<◌, ◌^◌}
 use Rattle.eq_fir.specs.Rows.{finished_of, output_by}
 use Rattle.laws.proofs.Size.{back}
-use borrow.Author.Rules.{rules}
 use lib.IntN.{ℤ}
 use lib.Signed.{mag}
 use mathlib.Core.Path.{◌≡◌}

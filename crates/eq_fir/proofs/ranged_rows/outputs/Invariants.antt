@@ -1,17 +1,9 @@
-use Prim.Native.Nat.{◌+◌, ◌*◌, ◌-◌, ◌<◌, ◌≤◌, ◌^◌}
-use Rattle.eq_fir.proofs.Windows.{outputs_i, outputs_q, outputs_step}
-use Rattle.angles.specs.declared.Symbol.{Symbol}
+use Prim.Native.Nat.{◌*◌, ◌-◌, ◌≤◌}
 use Rattle.eq_fir.specs.Rows.{outputs_by}
-use Rattle.laws.proofs.Size.{back}
 use Rattle.laws.specs.Ranges.{firsts}
-use borrow.Author.Rules.{rules}
-use lib.IntN.{ℤ}
-use lib.ListN.{drop, length, length-set, set}
-use lib.Signed.{mag}
-use mathlib.Core.List.{List, ◌++◌}
-use mathlib.Core.Path.{◌∙◌, ◌≡◌, ap, refl}
-use mir.Syntax.{w16}
-use native.Mathlib.Omega.{arith}
+use lib.ListN.{drop, length}
+use mathlib.Core.List.{◌++◌}
+use mathlib.Core.Path.{◌≡◌}
 use Rattle.eq_fir.proofs.ranged_rows.outputs.Given as goal
 
 abbrev pub invariant-loop-k : goal.invariant-loop-k

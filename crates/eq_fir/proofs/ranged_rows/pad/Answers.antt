@@ -1,12 +1,11 @@
 -- The loop has copied the first k numbers; the two that it leaves are zeros. Assumes nothing.
-use Prim.Native.Nat.{◌-◌, ◌<◌, ◌^◌, ◌≤◌, ℕ}
+use Prim.Native.Nat.{◌<◌, ◌^◌, ℕ}
 use Rattle.eq_fir.proofs.Bytes.{two-zeros}
 use Rattle.eq_fir.specs.Fir.{nth}
 use Rattle.eq_fir.specs.Rows.{padded}
 use Rattle.laws.proofs.Lists.{firsts-step}
 use Rattle.laws.proofs.Size.{back}
 use Rattle.laws.specs.Ranges.{firsts}
-use borrow.Author.Rules.{rules}
 use lib.IntN.{pos, ℤ}
 use lib.ListN.{get_or-eq_default, drop, replicate, set}
 use lib.Signed.{mag}

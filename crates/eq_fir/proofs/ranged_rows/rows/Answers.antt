@@ -1,13 +1,11 @@
 -- The loop has written the first j entries, each a byte. Assumes nothing.
-use Prim.Native.Nat.{◌-◌, ◌/◌, ◌%◌, ◌<◌, ◌≤◌, ℕ}
+use Prim.Native.Nat.{◌<◌, ◌≤◌, ℕ}
 use Rattle.eq_fir.proofs.Bytes.{below_next}
 use Rattle.eq_fir.specs.Fir.{nth}
-use Rattle.eq_fir.specs.Rows.{factor_at, rows_of}
+use Rattle.eq_fir.specs.Rows.{rows_of}
 use Rattle.laws.proofs.Lists.{firsts-step, getD-firsts}
 use Rattle.laws.proofs.Size.{back}
 use Rattle.laws.specs.Ranges.{firsts}
-use borrow.Author.Rules.{rules}
-use lib.Dec.{eqb, leb}
 use lib.IntN.{nat_abs, pos, ℤ}
 use lib.ListN.{drop, replicate, set}
 use mathlib.Core.List.{List, [], ◌++◌, append-nil}
@@ -15,11 +13,8 @@ use mathlib.Core.Path.{◌∙◌, ◌≡◌, ap, refl}
 use mir.Syntax.{w16}
 use native.Mathlib.Nat.{not-suc-le-zero}
 use native.Mathlib.Omega.{arith}
+use Rattle.eq_fir.proofs.ranged_rows.rows.Invariants.{entry}
 use Rattle.eq_fir.proofs.ranged_rows.rows.Goals as goal
-
--- entry j, of padded taps
-abbrev entry : List ℤ → ℕ → ℤ
-entry t j = factor_at t (leb 48 j) (eqb (j / 24 % 2) 0) (j % 24)
 
 pub pad-t-requires : goal.pad-t-requires
 pad-t-requires c = c.requires

@@ -1,5 +1,4 @@
 -- `eq_train::plain::in_range` meets its contract. Assumes nothing.
-use borrow.Author.Rules.{rules}
 use Rattle.eq_train.specs.Ranges.{sums_in_range}
 use Rattle.eq_train.proofs.plain.in_range.Goals as goal
 

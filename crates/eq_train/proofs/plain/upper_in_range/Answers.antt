@@ -1,11 +1,6 @@
 -- `eq_train::plain::upper_in_range` meets its contract. Assumes nothing.
 use mathlib.Core.Path.{◌≡◌, refl, sym, ◌∙◌}
-use mathlib.Core.Bool.{◌&&◌}
-use Prim.Native.Nat.{◌*◌, ◌-◌, ◌≤◌}
 use native.Mathlib.Omega.{arith}
-use borrow.Author.Rules.{rules}
-use Rattle.sums.specs.Sums.{upper_at}
-use Rattle.eq_train.specs.Ranges.{upper_in_range}
 use Rattle.eq_train.proofs.Places.{first-place, row_in, row_after}
 use Rattle.eq_train.proofs.Tested.{upper_next, upper_end}
 use Rattle.eq_train.proofs.plain.upper_in_range.Goals as goal

@@ -1,12 +1,8 @@
-use mathlib.Core.Path.{◌≡◌, refl, sym, ◌∙◌}
+use mathlib.Core.Path.{◌≡◌}
 use mathlib.Core.Bool.{◌&&◌}
 use Prim.Native.Nat.{◌*◌, ◌-◌, ◌≤◌}
-use native.Mathlib.Omega.{arith}
-use borrow.Author.Rules.{rules}
 use Rattle.sums.specs.Sums.{upper_at}
 use Rattle.eq_train.specs.Ranges.{upper_in_range}
-use Rattle.eq_train.proofs.Places.{first-place, row_in, row_after}
-use Rattle.eq_train.proofs.Tested.{upper_next, upper_end}
 use Rattle.eq_train.proofs.plain.upper_in_range.Given as goal
 
 abbrev pub invariant-loop-r : goal.invariant-loop-r

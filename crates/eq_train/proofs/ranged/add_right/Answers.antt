@@ -1,9 +1,8 @@
 -- `eq_train::ranged::add_right` meets its contract. Assumes nothing.
 use mathlib.Core.Path.{◌≡◌, refl, sym, ap, ◌∙◌}
-use Prim.Native.Nat.{ℕ, ◌+◌, ◌*◌, ◌-◌, ◌≤◌}
+use Prim.Native.Nat.{ℕ, ◌+◌, ◌*◌}
 use native.Mathlib.Omega.{arith}
 use native.Mathlib.Nat.{le_refl}
-use borrow.Author.Rules.{rules}
 use lib.IntN.{◌+ℤ◌}
 use lib.ListN.{set}
 use mir.Facts.{to_z-of_z}
@@ -11,8 +10,7 @@ use mir.Syntax.{w16, w64}
 use mir.Val.{to_z, of_z}
 use Rattle.fx.specs.declared.Parts.{Parts}
 use Rattle.laws.proofs.Size.{back}
-use Rattle.eq_train.specs.Train.{nth, right_products, right_product}
-use Rattle.eq_train.specs.Steps.{added_from, Room}
+use Rattle.eq_train.specs.Train.{nth, right_product}
 use Rattle.eq_train.proofs.Adding.{right_turn, right_done, room_step, room_two, held, summed}
 use Rattle.eq_train.proofs.ranged.add_right.Goals as goal
 

@@ -1,18 +1,7 @@
-use mathlib.Core.Path.{◌≡◌, refl, sym, ap, ◌∙◌}
-use Prim.Native.Nat.{ℕ, ◌+◌, ◌*◌, ◌-◌, ◌≤◌}
-use native.Mathlib.Omega.{arith}
-use native.Mathlib.Nat.{le_refl}
-use borrow.Author.Rules.{rules}
-use lib.IntN.{◌+ℤ◌}
-use lib.ListN.{set}
-use mir.Facts.{to_z-of_z}
-use mir.Syntax.{w16, w64}
-use mir.Val.{to_z, of_z}
-use Rattle.fx.specs.declared.Parts.{Parts}
-use Rattle.laws.proofs.Size.{back}
-use Rattle.eq_train.specs.Train.{nth, right_products, right_product}
+use mathlib.Core.Path.{◌≡◌}
+use Prim.Native.Nat.{◌*◌, ◌-◌, ◌≤◌}
+use Rattle.eq_train.specs.Train.{right_products}
 use Rattle.eq_train.specs.Steps.{added_from, Room}
-use Rattle.eq_train.proofs.Adding.{right_turn, right_done, room_step, room_two, held, summed}
 use Rattle.eq_train.proofs.ranged.add_right.Given as goal
 
 abbrev pub invariant-loop-r : goal.invariant-loop-r

@@ -1,9 +1,8 @@
 -- `eq_train::ranged::add_row` meets its contract. Assumes nothing.
 use mathlib.Core.Path.{◌≡◌, refl, sym, ap, ◌∙◌}
-use Prim.Native.Nat.{◌+◌, ◌*◌, ◌-◌, ◌≤◌}
+use Prim.Native.Nat.{◌+◌, ◌*◌, ◌-◌}
 use native.Mathlib.Omega.{arith}
 use native.Mathlib.Nat.{le_refl}
-use borrow.Author.Rules.{rules}
 use lib.IntN.{◌+ℤ◌}
 use lib.ListN.{set}
 use mir.Syntax.{w16, w64}
@@ -11,7 +10,6 @@ use mir.Val.{to_z, of_z}
 use Rattle.fx.specs.declared.Parts.{Parts}
 use Rattle.laws.proofs.Size.{back}
 use Rattle.eq_train.specs.Train.{nth, row_products, line_product}
-use Rattle.eq_train.specs.Steps.{added_from, Room}
 use Rattle.eq_train.proofs.Adding.{row_length, room_later, row_turn, row_done, room_step, room_two, held, summed}
 use Rattle.eq_train.proofs.ranged.add_row.Goals as goal
 

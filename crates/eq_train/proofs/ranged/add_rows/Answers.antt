@@ -52,15 +52,15 @@ returns c =
     let a3 = c.add_row-3 in
     let a2 = c.add_row-2 in
     let a1 = c.add_row in
-    sym (upper_done a11.new.0 line 132)
-    ∙ upper_on a10.new.0 a11.new.0 line 10 130 (omega arith) a11.ensures.0
-    ∙ upper_on a9.new.0 a10.new.0 line 9 126 (omega arith) a10.ensures.0
-    ∙ upper_on a8.new.0 a9.new.0 line 8 120 (omega arith) a9.ensures.0
-    ∙ upper_on a7.new.0 a8.new.0 line 7 112 (omega arith) a8.ensures.0
-    ∙ upper_on a6.new.0 a7.new.0 line 6 102 (omega arith) a7.ensures.0
-    ∙ upper_on a5.new.0 a6.new.0 line 5 90 (omega arith) a6.ensures.0
-    ∙ upper_on a4.new.0 a5.new.0 line 4 76 (omega arith) a5.ensures.0
-    ∙ upper_on a3.new.0 a4.new.0 line 3 60 (omega arith) a4.ensures.0
-    ∙ upper_on a2.new.0 a3.new.0 line 2 42 (omega arith) a3.ensures.0
-    ∙ upper_on a1.new.0 a2.new.0 line 1 22 (omega arith) a2.ensures.0
-    ∙ upper_on S.s.now a1.new.0 line 0 0 (omega arith) a1.ensures.0
+    sym (upper_done a11.new.s line 132)
+    ∙ upper_on a10.new.s a11.new.s line 10 130 (omega arith) a11.ensures.0
+    ∙ upper_on a9.new.s a10.new.s line 9 126 (omega arith) a10.ensures.0
+    ∙ upper_on a8.new.s a9.new.s line 8 120 (omega arith) a9.ensures.0
+    ∙ upper_on a7.new.s a8.new.s line 7 112 (omega arith) a8.ensures.0
+    ∙ upper_on a6.new.s a7.new.s line 6 102 (omega arith) a7.ensures.0
+    ∙ upper_on a5.new.s a6.new.s line 5 90 (omega arith) a6.ensures.0
+    ∙ upper_on a4.new.s a5.new.s line 4 76 (omega arith) a5.ensures.0
+    ∙ upper_on a3.new.s a4.new.s line 3 60 (omega arith) a4.ensures.0
+    ∙ upper_on a2.new.s a3.new.s line 2 42 (omega arith) a3.ensures.0
+    ∙ upper_on a1.new.s a2.new.s line 1 22 (omega arith) a2.ensures.0
+    ∙ upper_on S.s.now a1.new.s line 0 0 (omega arith) a1.ensures.0

@@ -1,6 +1,5 @@
 -- `eq_train::ranges::product_in_range` meets its contract. Assumes nothing.
 use Prim.Native.Nat.{ℕ, zero, suc, ◌+◌, ◌*◌, ◌^◌, ◌<◌}
-use borrow.Author.Rules.{rules}
 use borrow.Author.Tests.{le-leb, lt-leb}
 use lib.Dec.{leb}
 use lib.IntN.{ℤ, pos, negsuc, nat_abs, ◌-ℤ◌, +ℤ_idl}
@@ -39,10 +38,10 @@ low_fits : (m : ℕ) → m < 2 ^ 63 → SFits w64 (pos 0 -ℤ to_z w64 m)
 low_fits m h = sfits_abs w64 (pos 0 -ℤ to_z w64 m) (rw (down m h).is (omega (arith, abs_sub (pos 0) (pos m), h)))
 
 pub overflow_sub-result : goal.overflow_sub-result
-overflow_sub-result c = low_fits (c.args.n * 2147418112) (omega (arith, c.fits.n.fits))
+overflow_sub-result c = low_fits (c.args.n * 2147418112) (omega (arith, c.ranges.n.fits))
 
 pub overflow_sub-result-2 : goal.overflow_sub-result-2
-overflow_sub-result-2 c = low_fits (c.args.n * 2147450880) (omega (arith, c.fits.n.fits))
+overflow_sub-result-2 c = low_fits (c.args.n * 2147450880) (omega (arith, c.ranges.n.fits))
 
 pub returns : goal.returns
 unfolding product_in_range
@@ -51,15 +50,15 @@ returns c =
     let low = n * 2147418112 in
     let high = n * 2147483648 in
     let turn = n * 2147450880 in
-    let f = c.fits.n.fits in
+    let f = c.ranges.n.fits in
     rw (
       to_z-of_z (low_fits low (omega (arith, f))),
       to_z-of_z (low_fits turn (omega (arith, f))),
       to_z_pos w64 {n = low} (omega (arith, f)),
       to_z_pos w64 {n = high} (omega (arith, f)),
       to_z_pos w64 {n = turn} (omega (arith, f)),
-      to_z-of_z c.fits.re,
-      to_z-of_z c.fits.im,
+      to_z-of_z c.ranges.re,
+      to_z-of_z c.ranges.im,
       zero-less low,
       zero-less turn,
       within-size c.args.im turn,

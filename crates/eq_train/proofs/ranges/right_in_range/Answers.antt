@@ -1,13 +1,10 @@
 -- `eq_train::ranges::right_in_range` meets its contract. Assumes nothing.
 use mathlib.Core.Path.{◌≡◌, refl, sym, ◌∙◌}
-use mathlib.Core.Bool.{◌&&◌}
-use Prim.Native.Nat.{◌+◌, ◌*◌, ◌-◌, ◌≤◌}
+use Prim.Native.Nat.{◌+◌, ◌*◌}
 use native.Mathlib.Omega.{arith}
-use borrow.Author.Rules.{rules}
 use mir.Syntax.{w64}
 use Rattle.laws.proofs.Size.{back}
 use Rattle.eq_train.specs.Train.{nth}
-use Rattle.eq_train.specs.Ranges.{right_in_range}
 use Rattle.eq_train.proofs.Tested.{right_next, right_end}
 use Rattle.eq_train.proofs.ranges.right_in_range.Goals as goal
 

@@ -1,13 +1,7 @@
-use mathlib.Core.Path.{◌≡◌, refl, sym, ◌∙◌}
+use mathlib.Core.Path.{◌≡◌}
 use mathlib.Core.Bool.{◌&&◌}
-use Prim.Native.Nat.{◌+◌, ◌*◌, ◌-◌, ◌≤◌}
-use native.Mathlib.Omega.{arith}
-use borrow.Author.Rules.{rules}
-use mir.Syntax.{w64}
-use Rattle.laws.proofs.Size.{back}
-use Rattle.eq_train.specs.Train.{nth}
+use Prim.Native.Nat.{◌-◌, ◌≤◌}
 use Rattle.eq_train.specs.Ranges.{right_in_range}
-use Rattle.eq_train.proofs.Tested.{right_next, right_end}
 use Rattle.eq_train.proofs.ranges.right_in_range.Given as goal
 
 abbrev pub invariant-loop-r : goal.invariant-loop-r

@@ -1,25 +1,18 @@
 -- `eq_train::ranges::row_in_range` meets its contract. Assumes nothing.
 use mathlib.Core.Path.{◌≡◌, sym, ◌∙◌}
-use mathlib.Core.Bool.{◌&&◌}
-use Prim.Native.Nat.{ℕ, ◌+◌, ◌*◌, ◌-◌, ◌≤◌, ◌<◌}
+use Prim.Native.Nat.{ℕ, ◌+◌, ◌*◌}
 use native.Mathlib.Omega.{arith}
 use native.Mathlib.Numerals.{add-one}
-use borrow.Author.Rules.{rules}
 use mir.Syntax.{w64}
 use Rattle.laws.proofs.Size.{back}
 use Rattle.sums.specs.Sums.{upper_at}
 use Rattle.eq_train.specs.Train.{nth}
-use Rattle.eq_train.specs.Ranges.{row_in_range}
 use Rattle.eq_train.proofs.Places.{next_column}
 use Rattle.eq_train.proofs.Tested.{diagonal_entry, product_entry, row_one, row_next, row_end}
 use Rattle.eq_train.proofs.ranges.row_in_range.Goals as goal
 
 further : (r c k : ℕ) → k ≡ 2 * upper_at r c → k + 2 ≡ 2 * upper_at r (c + 1)
 further r c k e = rw (add-one c) (omega (arith, next_column r c))
-
-element-copy-out-diagonal-in-range-2 :
-    goal.bounds-s-at-2
-element-copy-out-diagonal-in-range-2 c = search rules
 
 pub loop-c-init : goal.loop-c-init
 loop-c-init c =

@@ -1,16 +1,8 @@
-use mathlib.Core.Path.{◌≡◌, sym, ◌∙◌}
+use mathlib.Core.Path.{◌≡◌}
 use mathlib.Core.Bool.{◌&&◌}
-use Prim.Native.Nat.{ℕ, ◌+◌, ◌*◌, ◌-◌, ◌≤◌, ◌<◌}
-use native.Mathlib.Omega.{arith}
-use native.Mathlib.Numerals.{add-one}
-use borrow.Author.Rules.{rules}
-use mir.Syntax.{w64}
-use Rattle.laws.proofs.Size.{back}
+use Prim.Native.Nat.{◌+◌, ◌*◌, ◌-◌, ◌≤◌, ◌<◌}
 use Rattle.sums.specs.Sums.{upper_at}
-use Rattle.eq_train.specs.Train.{nth}
 use Rattle.eq_train.specs.Ranges.{row_in_range}
-use Rattle.eq_train.proofs.Places.{next_column}
-use Rattle.eq_train.proofs.Tested.{diagonal_entry, product_entry, row_one, row_next, row_end}
 use Rattle.eq_train.proofs.ranges.row_in_range.Given as goal
 
 abbrev pub invariant-loop-c : goal.invariant-loop-c
