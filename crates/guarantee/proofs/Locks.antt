@@ -186,8 +186,8 @@ module _ (base : ℕ) (last : Record) (h : List Push) where
       rw n.0 (refl, refl)
 
 -- ---- the lock after a symbol that goes on
-lock_after_lem : (s : System) (h : History) → Tied s h → 24 ≤ length h.pushes → lock_of s ≡ lock_at 9296 h.base h.last h.pushes (length h.pushes - 23)
-lock_after_lem s h t l =
+lock_after : (s : System) (h : History) → Tied s h → 24 ≤ length h.pushes → lock_of s ≡ lock_at 9296 h.base h.last h.pushes (length h.pushes - 23)
+lock_after s h t l =
     let f = follows 9296 h.base h.last h.pushes (length h.pushes) (lit≤ tt) (omega arith) (kept-fold 9296 h.base h.last h.pushes (length h.pushes) (lit≤ tt) t.kept) in
     ap (λ (y : Held). y.sync.run.lock) t.held ∙ ap (λ (u : Run). u.lock) f.run
 
@@ -223,7 +223,7 @@ module _ (s : System) (h : History) (t : Tied s h) where
       let u : Tied s' (goes_on h x) = subst (Tied s') g t' in
       let n : length (with_symbol h x) ≡ suc m = long-with x in
       let k : length (with_symbol h x) - 23 ≡ suc (m - 23) = omega (arith, n) in
-      lock_after_lem s' (goes_on h x) u (omega (arith, n)) ∙ ap (lock_at 9296 h.base h.last (with_symbol h x)) k
+      lock_after s' (goes_on h x) u (omega (arith, n)) ∙ ap (lock_at 9296 h.base h.last (with_symbol h x)) k
     where
       long-with : (x : Input) → length (with_symbol h x) ≡ suc (length h.pushes)
       long-with x = unfold with_symbol in grown-length h.base h.last h.pushes (push_of h x)

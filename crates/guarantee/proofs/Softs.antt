@@ -79,9 +79,9 @@ module _ (s : System) (h : History) (t : Tied s h) (x : Input) (soft : List ℤ)
       let z = own-refusal s h t x soft ∙ e in
       record { placed = placed_by z; stand = all-stand z; fit = all_fit; are-true = softs_true h.points (aligned 9296 r x l) }
 
-pub soft_bits_lem : (s : System) (h : History) → Tied s h → (c : Call) → CallFits c → (rest : List Call) → (x : Input) (a : Accumulators) (b : SlotStore) (soft : List ℤ) →
+pub soft_bits : (s : System) (h : History) → Tied s h → (c : Call) → CallFits c → (rest : List Call) → (x : Input) (a : Accumulators) (b : SlotStore) (soft : List ℤ) →
     c ≡ symbol x a b soft → refusal_in h c ≡ 0 → SoftBits h s c (told_by s c) rest x (lent_to s a b soft)
-soft_bits_lem s h t c f rest x a b soft e z = subst (λ (k : Call). CallFits k → refusal_in h k ≡ 0 → SoftBits h s k (told_by s k) rest x (lent_to s a b soft)) (sym e) (go a b) f z
+soft_bits s h t c f rest x a b soft e z = subst (λ (k : Call). CallFits k → refusal_in h k ≡ 0 → SoftBits h s k (told_by s k) rest x (lent_to s a b soft)) (sym e) (go a b) f z
   where
     go : (a : Accumulators) (b : SlotStore) → CallFits (symbol x a b soft) → refusal_in h (symbol x a b soft) ≡ 0 →
         SoftBits h s (symbol x a b soft) (told_by s (symbol x a b soft)) rest x (lent_to s a b soft)

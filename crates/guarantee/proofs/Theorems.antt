@@ -36,7 +36,7 @@ call_claims s h t c f rest =
       relocks = relocks s h t c f rest;
       earlier =
           λ place P Q qs es e p. premise_earlier place P Q qs es (subst (λ (ps : List Push). Premise 9296 place P Q (size_at ps) (length ps - 23)) e p);
-      soft_bits_lem = Bits.soft-bits s h t c f rest;
+      soft_bits = Bits.soft_bits s h t c f rest;
       refused = none-refused s h t c f;
     }
 

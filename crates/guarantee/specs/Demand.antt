@@ -157,14 +157,14 @@ module _ (h : History) (s : System) (c : Call) (t : Told) (rest : List Call) whe
     pub few : length ps < 37207 → (p : ℕ) → ¬ LockBy 9296 (size_at ps) p (length ps)
 
   -- the receiver's lock after the call
-  abbrev lock_after_lem : Lock
-  lock_after_lem = (after_call s c).receiver.front.sync.run.lock
+  abbrev lock_after : Lock
+  lock_after = (after_call s c).receiver.front.sync.run.lock
 
   -- "the receiver is locked after it and not before": as its own lock has it, and as a period's end tells; of a call that does not end the stretch
   pub record LockTold : Type 0 where
-    pub locked : ends_stretch h c ≡ false → (p : ℕ) → LockBy 9296 (size_at ps) p (length ps) → (is_locked lock_after_lem ≡ true) × (offset_of lock_after_lem ≡ p)
-    pub locked_only : ends_stretch h c ≡ false → is_locked lock_after_lem ≡ true → LockBy 9296 (size_at ps) (offset_of lock_after_lem) (length ps)
-    pub period : ends_stretch h c ≡ false → (q : SyncStats) → Among (IsPeriod q) t.events → (q.locked ≡ is_locked lock_after_lem) × (q.offset ≡ offset_of lock_after_lem)
+    pub locked : ends_stretch h c ≡ false → (p : ℕ) → LockBy 9296 (size_at ps) p (length ps) → (is_locked lock_after ≡ true) × (offset_of lock_after ≡ p)
+    pub locked_only : ends_stretch h c ≡ false → is_locked lock_after ≡ true → LockBy 9296 (size_at ps) (offset_of lock_after) (length ps)
+    pub period : ends_stretch h c ≡ false → (q : SyncStats) → Among (IsPeriod q) t.events → (q.locked ≡ is_locked lock_after) × (q.offset ≡ offset_of lock_after)
 
   -- "Whenever, in every period of 9,296 after the loss, the rotated symbols have correlation size at least P at one fixed position and at most Q at all
   -- others, P ≥ 4Q + 8"
@@ -172,8 +172,8 @@ module _ (h : History) (s : System) (c : Call) (t : Told) (rest : List Call) whe
     -- "lock is found exactly on the 37,207th accepted symbol after the loss"; `few` above: "and no earlier"
     pub falls : 37207 ≤ length ps → LockOn 9296 (size_at ps) place 37207
     -- after the call of that symbol the receiver is locked at that position, after the 37,206th and all before it is not
-    pub locked : m ≡ 37206 → length ps ≡ 37207 → (is_locked lock_after_lem ≡ true) × (offset_of lock_after_lem ≡ place)
-    pub not_before : length ps < 37207 → is_locked lock_after_lem ≡ false
+    pub locked : m ≡ 37206 → length ps ≡ 37207 → (is_locked lock_after ≡ true) × (offset_of lock_after ≡ place)
+    pub not_before : length ps < 37207 → is_locked lock_after ≡ false
     -- the lock is not lost by periods
     pub lasts : (k : ℕ) → k ≤ length ps → ¬ LossBy 9296 (size_at ps) k
     -- "from the second later reading of that position on, every reading gives a head until the next loss or restart", of that very window. Readings
@@ -205,7 +205,7 @@ module _ (h : History) (s : System) (c : Call) (t : Told) (rest : List Call) whe
     pub earlier : (place P Q : ℕ) (qs es : List Push) → ps ≡ qs ++ es → Premise 9296 place P Q (size_at ps) (length ps - 23) →
         Premise 9296 place P Q (size_at qs) (length qs - 23)
     -- a refused symbol writes none
-    pub soft_bits_lem : (x : Input) (a : Accumulators) (b : SlotStore) (soft : List ℤ) → c ≡ symbol x a b soft → refusal_in h c ≡ 0 → SoftBits x (lent_to s a b soft)
+    pub soft_bits : (x : Input) (a : Accumulators) (b : SlotStore) (soft : List ℤ) → c ≡ symbol x a b soft → refusal_in h c ≡ 0 → SoftBits x (lent_to s a b soft)
     pub refused : (refusal_in h c ≡ 0 → ⊥) → NoSoft c t
 
 -- ---- THE CLAIM

@@ -214,6 +214,7 @@ taps_later b c cs f s a t =
 
 pub taps_for_lem : (b : Back) (cs : List Corrected) (f s : List ℤ) → Filled b → (a : AlignedSymbol) → In a (aligned_all b cs f s) → EqualisedAt b cs f s a
 unfolding aligned_all
+taps_for_lem b [] f s k a i = elim i [ ]
 taps_for_lem b (c ∷ cs) f s k a i =
     let p = pushed_back b c f s in
     ⊎_elim (taps_first b c cs f s k a) (λ (t : In a (aligned_all p.back cs f s)). taps_later b c cs f s a (taps_for_lem p.back cs f s (pushed_filled b c f s k) a t))

@@ -124,4 +124,4 @@ softs_true p given i h =
 
 -- ---- THE SOFT VALUES OF A SLOT fit the buffer: it has 8,976 main symbols, and of the five that wait the oldest is one
 pub softs_fit : FitClaim
-softs_fit = slot.softs-fit
+softs_fit = slot.softs_fit
