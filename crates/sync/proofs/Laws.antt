@@ -1,7 +1,6 @@
 -- The window that a loop shifts, and the tests of positions. Assumes nothing.
 use Prim.Native.Nat.{◌+◌, ◌-◌, ◌<◌, ◌^◌, ◌≤◌, suc, zero, ℕ}
 use Rattle.laws.proofs.Lists.{length-firsts}
-use Rattle.laws.proofs.Size.{at}
 use Rattle.laws.proofs.Tests.{and_both, by_test}
 use Rattle.laws.specs.Choice.{if_no, if_yes, if◌then◌else◌}
 use Rattle.laws.specs.Ranges.{firsts}
@@ -17,12 +16,11 @@ use Rattle.sync.specs.Sync.{kept_window, stored_of, symbol_of, window_after}
 use Rattle.sync.specs.declared.SlotSync.{SlotSync}
 use borrow.Author.Tests.{eqb-true}
 use lib.Dec.{eqb, leb}
-use lib.IntN.{one, ℤ}
+use lib.IntN.{ℤ}
 use lib.ListN.{drop, drop_of_length-le, get_or, length, length-append, set}
 use lib.Seq.{drop-cons, get_or-append-add, get_or-drop, set_at}
 use mathlib.Core.Bool.{◌&&◌, true}
 use mathlib.Core.List.{List, [], ◌++◌, ◌∷◌, append_assoc, append-nil}
-use mathlib.Core.Option.{none}
 use mathlib.Core.Path.{◌∙◌, ◌≡◌, ap, sym}
 use native.Mathlib.Nat.{add-zero}
 use native.Mathlib.Omega.{arith}

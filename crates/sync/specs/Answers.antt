@@ -1,5 +1,5 @@
 -- What the entries answer, and the accumulators afterwards. A refusal "returns the number and the state received; lent memory is unchanged".
-use Rattle.std.specs.Prelude.{ℕ, ◌+◌, ◌^◌, Bool, ◌&&◌, List, eqb, leb, ltb, ℤ, length, replicate}
+use Rattle.std.specs.Prelude.{ℕ, ◌+◌, ◌^◌, ◌&&◌, List, eqb, leb, ltb, ℤ, length, replicate}
 use Rattle.laws.specs.Choice.{if◌then◌else◌}
 use Rattle.sync_corr.specs.Correlate.{ones_of}
 use Rattle.sync_heads.specs.declared.Record.TheVariants.{Never}

@@ -1,8 +1,6 @@
-use Rattle.laws.proofs.Size.{at}
 use Rattle.laws.specs.Choice.{cases}
 use Rattle.sync.proofs.Laws.{taking}
 use Rattle.sync.specs.Answers.{push_acc, push_answer}
-use borrow.Author.Rules.{rules}
 use lib.ListN.{length}
 use mathlib.Core.Path.{◌∙◌, sym}
 use mir.Facts.{to_z-of_z}
@@ -11,7 +9,7 @@ use Rattle.sync.proofs.push.Goals as goal
 pub accepted-requires : goal.accepted-requires
 accepted-requires c =
     let a = c.args in
-    let t = taking (length a.acc.now) a.t4 a.t5 a.s.run (sym c.push_refusal-n.ensures ∙ c.if-n-eq0.true) in
+    let t = taking (length a.acc.now) a.f a.w a.s.run (sym c.push_refusal-n.ensures ∙ c.if-n-eq0.true) in
     (t.ready, t.ones_f, t.ones_w, t.long)
 
 pub returns-then-n-eq0 : goal.returns-then-n-eq0

@@ -1,10 +1,8 @@
 -- The loop has zeroed the first i. Assumes nothing.
-use Prim.Native.Nat.{◌-◌, ◌≤◌}
 use borrow.Author.Fill.{fill_more, fill_none}
-use borrow.Author.Rules.{rules}
-use lib.ListN.{drop, length, length-set, replicate}
+use lib.ListN.{length, length-set}
 use lib.Seq.{drop-length}
-use mathlib.Core.List.{◌++◌, append-nil}
+use mathlib.Core.List.{append-nil}
 use mathlib.Core.Path.{◌∙◌, ◌≡◌, refl}
 use native.Mathlib.Omega.{arith}
 use Rattle.sync.proofs.plain.clear.Goals as goal

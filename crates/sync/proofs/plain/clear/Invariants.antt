@@ -1,11 +1,7 @@
 use Prim.Native.Nat.{◌-◌, ◌≤◌}
-use borrow.Author.Fill.{fill_more, fill_none}
-use borrow.Author.Rules.{rules}
-use lib.ListN.{drop, length, length-set, replicate}
-use lib.Seq.{drop-length}
-use mathlib.Core.List.{◌++◌, append-nil}
-use mathlib.Core.Path.{◌∙◌, ◌≡◌, refl}
-use native.Mathlib.Omega.{arith}
+use lib.ListN.{drop, length, replicate}
+use mathlib.Core.List.{◌++◌}
+use mathlib.Core.Path.{◌≡◌}
 use Rattle.sync.proofs.plain.clear.Given as goal
 
 abbrev pub invariant-loop-i : goal.invariant-loop-i

@@ -1,6 +1,5 @@
 use Rattle.laws.specs.Choice.{cases}
 use Rattle.sync.specs.Sync.{kept_window, no_window}
-use borrow.Author.Rules.{rules}
 use Rattle.sync.proofs.plain.kept_window.Goals as goal
 
 pub returns-in-Nothing : goal.returns-in-Nothing

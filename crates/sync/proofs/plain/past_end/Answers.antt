@@ -1,6 +1,5 @@
 use Prim.Native.Nat.{◌+◌, ◌-◌, ◌^◌}
 use Rattle.laws.proofs.Tests.{by_test}
-use borrow.Author.Rules.{rules}
 use borrow.Author.Tests.{le-leb, leb-false, leb-true, lt-leb}
 use lib.Dec.{leb}
 use mathlib.Core.Path.{◌∙◌, sym}

@@ -1,7 +1,6 @@
 -- Each refusal by the tests on its way. Assumes nothing.
 use Rattle.laws.specs.Choice.{cases}
 use Rattle.sync.specs.Answers.{push_refusal}
-use borrow.Author.Rules.{rules}
 use Rattle.sync.proofs.plain.push_refusal.Goals as goal
 
 pub returns-then-past_end : goal.returns-then-past_end

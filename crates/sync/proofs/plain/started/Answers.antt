@@ -1,5 +1,4 @@
 use Rattle.sync.specs.Sync.{no_window, started_sync}
-use borrow.Author.Rules.{rules}
 use Rattle.sync.proofs.plain.started.Goals as goal
 
 pub returns : goal.returns

@@ -1,11 +1,10 @@
 -- The loop has moved the first k entries down by one symbol. Assumes nothing.
-use Prim.Native.Nat.{◌+◌, ◌-◌, ◌<◌, ◌^◌, ◌≤◌, ℕ}
+use Prim.Native.Nat.{◌+◌, ◌<◌, ◌^◌, ℕ}
 use Rattle.laws.proofs.Lists.{firsts-step}
 use Rattle.laws.proofs.Size.{back}
 use Rattle.laws.specs.Ranges.{firsts}
 use Rattle.sync.proofs.Laws.{get_d_past, moved_down}
 use Rattle.sync.specs.Sync.{window_after}
-use borrow.Author.Rules.{rules}
 use lib.IntN.{pos, ℤ}
 use lib.ListN.{drop, get_or, set}
 use lib.Signed.{mag}

@@ -1,18 +1,9 @@
-use Prim.Native.Nat.{◌+◌, ◌-◌, ◌<◌, ◌^◌, ◌≤◌, ℕ}
-use Rattle.laws.proofs.Lists.{firsts-step}
-use Rattle.laws.proofs.Size.{back}
+use Prim.Native.Nat.{◌+◌, ◌-◌, ◌≤◌}
 use Rattle.laws.specs.Ranges.{firsts}
-use Rattle.sync.proofs.Laws.{get_d_past, moved_down}
-use Rattle.sync.specs.Sync.{window_after}
-use borrow.Author.Rules.{rules}
-use lib.IntN.{pos, ℤ}
-use lib.ListN.{drop, get_or, set}
-use lib.Signed.{mag}
-use mathlib.Core.List.{List, ◌++◌}
-use mathlib.Core.Path.{◌∙◌, ◌≡◌, ap, refl}
-use mir.Facts.{to_z-of_z}
-use mir.Syntax.{w16}
-use native.Mathlib.Omega.{arith}
+use lib.IntN.{pos}
+use lib.ListN.{drop, get_or}
+use mathlib.Core.List.{◌++◌}
+use mathlib.Core.Path.{◌≡◌}
 use Rattle.sync.proofs.ranged.shift.Given as goal
 
 abbrev pub invariant-loop-k : goal.invariant-loop-k

@@ -1,6 +1,5 @@
 use Rattle.laws.specs.Choice.{cases}
 use Rattle.sync.specs.Sync.{stored_of}
-use borrow.Author.Rules.{rules}
 use Rattle.sync.proofs.ranged.store.Goals as goal
 
 pub returns-in-Nothing : goal.returns-in-Nothing

@@ -1,6 +1,5 @@
 use Rattle.laws.specs.Choice.{cases}
 use Rattle.sync.specs.Answers.{restart_refusal}
-use borrow.Author.Rules.{rules}
 use Rattle.sync.proofs.refusals.restart_refusal.Goals as goal
 
 pub returns-then-before : goal.returns-then-before
