@@ -19,15 +19,15 @@ returns-in-Search c =
 pub returns-then-p-offset : goal.returns-then-p-offset
 unfolding loud_place is_locked offset_of
 returns-then-p-offset c =
-    let k = c.k-1.given in
+    let k = c.in-Locked in
     let a = c.args in
-    let t : a.p ≤ k.0.0 = search rules in
-    (rw k.1 (sym (if_yes (leb a.p k.0.0) k.0.0 9295 (le-leb a.p k.0.0 t))), t, search rules)
+    let t : a.p ≤ k.offset = search rules in
+    (rw k.is (sym (if_yes (leb a.p k.offset) k.offset 9295 (le-leb a.p k.offset t))), t, search rules)
 
 pub returns-else-p-offset : goal.returns-else-p-offset
 unfolding loud_place is_locked offset_of
 returns-else-p-offset c =
-    let k = c.k-1.given in
+    let k = c.in-Locked in
     let a = c.args in
-    let t : k.0.0 < a.p = search rules in
-    (rw k.1 (sym (if_no (leb a.p k.0.0) k.0.0 9295 (lt-leb a.p k.0.0 t))), omega arith, omega arith)
+    let t : k.offset < a.p = search rules in
+    (rw k.is (sym (if_no (leb a.p k.offset) k.offset 9295 (lt-leb a.p k.offset t))), omega arith, omega arith)

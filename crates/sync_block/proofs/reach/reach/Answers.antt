@@ -1,5 +1,4 @@
 use Rattle.sync_block.specs.Reach.{reach_of}
-use borrow.Author.Rules.{rules}
 use native.Mathlib.Omega.{arith}
 use Rattle.sync_block.proofs.reach.reach.Goals as goal
 
