@@ -56,10 +56,10 @@ taken s e =
     let r = neither (eqb s.count 0 || ltb 4194304 s.count) (any_wide s.r) p.0 in
     (narrow s.r r.1, narrow s.p p.1)
 
-pub in_float : (v : ℤ) → nat_abs v ≤ 2 ^ 53 → T (in_float binary64 v)
+pub sum_in_float : (v : ℤ) → nat_abs v ≤ 2 ^ 53 → T (in_float binary64 v)
 unfolding in_float
-in_float (pos n) h = le→leb n (2 ^ 53) h
-in_float (negsuc n) h = lt→ltb n (2 ^ 53) h
+sum_in_float (pos n) h = le→leb n (2 ^ 53) h
+sum_in_float (negsuc n) h = lt→ltb n (2 ^ 53) h
 
 -- ---- the place of an upper entry
 -- a test that all numbers below n pass

@@ -1,5 +1,5 @@
 -- What the definitions of solve mean. Each statement stands above its proof. Assumes nothing.
-use Rattle.std.proofs.Common.{◌≡◌, ℕ, zero, suc, ◌+◌, ◌-◌, ◌*◌, ◌/◌, ◌%◌, ◌^◌, ◌<◌, ◌≤◌, min, Bool, true, false, List, [], ◌∷◌, ◌++◌, length, get_or, ℤ, pos, negsuc, nat_abs, sym, refl, ap, ◌∙◌, ⊎_elim, le_refl, le_of_suc-le-suc, not-suc-le-zero, div-lt_iff_lt-mul, eq-or-lt_of_le, le-div_iff_mul-le, arith, get_or-append-add}
+use Rattle.std.proofs.Common.{◌≡◌, ℕ, zero, suc, ◌+◌, ◌*◌, ◌/◌, ◌%◌, ◌^◌, ◌<◌, ◌≤◌, min, Bool, true, false, List, [], ◌∷◌, ◌++◌, length, get_or, ℤ, pos, negsuc, nat_abs, sym, refl, ap, ◌∙◌, ⊎_elim, le_refl, le_of_suc-le-suc, not-suc-le-zero, div-lt_iff_lt-mul, eq-or-lt_of_le, le-div_iff_mul-le, arith, get_or-append-add}
 use lib.Ieee.{Float, nan, inf, fin, binary64, of_bits, of_int, mul, up, down}
 use lib.Ieee.Back.{round_whole}
 use lib.Ieee.Exact.{HasValue}

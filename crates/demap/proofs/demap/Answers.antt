@@ -1,6 +1,5 @@
 -- `demap::demap` meets its contract: where the refusal's number is 0, what `one` gives. Assumes nothing.
 use mathlib.Core.Path.{◌≡◌, sym, ap, ◌∙◌}
-use borrow.Author.Rules.{rules}
 use borrow.Author.Tests.{eq-eqb, ne_eqb}
 use lib.ListN.{length}
 use mir.Facts.{to_z-of_z}

@@ -1,7 +1,6 @@
 -- `demap::demap_block` meets its contract: where the refusal's number is 0, what `block` gives. Assumes nothing.
 use mathlib.Core.Path.{◌≡◌, sym, ◌∙◌}
 use Prim.Native.Nat.{◌*◌, ◌/◌, ◌≤◌}
-use borrow.Author.Rules.{rules}
 use borrow.Author.Tests.{eq-eqb, ne_eqb}
 use lib.ListN.{length}
 use mir.Facts.{to_z-of_z}

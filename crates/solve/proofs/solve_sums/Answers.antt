@@ -1,5 +1,5 @@
 -- `solve::solve_sums` meets its contract. Assumes nothing.
-use Rattle.std.proofs.Common.{sym, ◌∙◌, rules}
+use Rattle.std.proofs.Common.{sym, ◌∙◌}
 use Rattle.laws.specs.Choice.{if_yes, if_no}
 use Rattle.solve.proofs.Laws.{taken}
 use Rattle.solve.specs.Answers.{solve_answer}

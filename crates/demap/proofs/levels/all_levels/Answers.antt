@@ -2,15 +2,13 @@
 use mathlib.Core.Path.{◌≡◌, ◌∙◌}
 use Prim.Native.Nat.{ℕ, suc, ◌-◌, ◌^◌, ◌≤◌, ◌<◌}
 use native.Mathlib.Omega.{arith}
-use borrow.Author.Rules.{rules}
 use lib.Pow.{pow_mono, pow_pos}
 use mir.Facts.{to_z-of_z}
 use mir.Syntax.{w8, w64}
-use mir.Val.{to_z}
 use Rattle.laws.proofs.Size.{back}
 use Rattle.demap.specs.Folds.{entry}
 use Rattle.demap.proofs.Fold.{shifted}
-use Rattle.demap.proofs.Stage.{Stage, stage_start, stage_skip, stage_size, stage_step, stage_least, stage_done, stage_room}
+use Rattle.demap.proofs.Stage.{stage_start, stage_skip, stage_size, stage_step, stage_least, stage_done, stage_room}
 use Rattle.demap.proofs.levels.all_levels.Goals as goal
 
 down : (b : ℕ) → 0 < b → b ≡ suc (b - 1)
@@ -42,7 +40,7 @@ loop-b-preserved-then-b-bits c =
     let g = rw (shifted (L.b - 1) (four L.b L.invariant.0)).0 at c.level.ensures in (
       four L.b L.invariant.0,
       rw (back w8 c.level.result c.level.type_inv)
-          (stage_step (L.b - 1) c.level.new.0 c.level.result c.if-b-bits.true c.requires.1 c.requires.2 s g.1 g.0),
+          (stage_step (L.b - 1) c.level.new.m c.level.result c.if-b-bits.true c.requires.1 c.requires.2 s g.1 g.0),
     )
 
 pub loop-b-preserved : goal.loop-b-preserved

@@ -1,15 +1,6 @@
-use mathlib.Core.Path.{◌≡◌, ◌∙◌}
-use Prim.Native.Nat.{ℕ, suc, ◌-◌, ◌^◌, ◌≤◌, ◌<◌}
-use native.Mathlib.Omega.{arith}
-use borrow.Author.Rules.{rules}
-use lib.Pow.{pow_mono, pow_pos}
-use mir.Facts.{to_z-of_z}
-use mir.Syntax.{w8, w64}
-use mir.Val.{to_z}
-use Rattle.laws.proofs.Size.{back}
+use Prim.Native.Nat.{◌≤◌}
 use Rattle.demap.specs.Folds.{entry}
-use Rattle.demap.proofs.Fold.{shifted}
-use Rattle.demap.proofs.Stage.{Stage, stage_start, stage_skip, stage_size, stage_step, stage_least, stage_done, stage_room}
+use Rattle.demap.proofs.Stage.{Stage}
 use Rattle.demap.proofs.levels.all_levels.Given as goal
 
 abbrev pub invariant-loop-b : goal.invariant-loop-b

@@ -1,11 +1,8 @@
 -- `demap::levels::level` meets its contract: a turn adds one label to the two least metrics and folds the table there. Assumes nothing.
-use mathlib.Core.List.{◌++◌}
 use mathlib.Core.Path.{◌≡◌, refl, sym, ◌∙◌}
-use Prim.Native.Nat.{ℕ, ◌+◌, ◌-◌, ◌≤◌}
+use Prim.Native.Nat.{ℕ, ◌+◌}
 use native.Mathlib.Omega.{arith}
-use borrow.Author.Rules.{rules}
 use lib.IntN.{ℤ, ◌-ℤ◌}
-use lib.ListN.{drop}
 use mir.Facts.{to_z-of_z}
 use mir.Syntax.{w8, w64}
 use mir.Val.{SFits, to_z}
@@ -51,7 +48,7 @@ loop-t-preserved c =
 
 -- the two least metrics after the loop, with their sizes
 both : (c : (lts.After-loop tie.the-claims reads.Pre reads.Post goal.the-invariant-loop-t goal.the-decreases-loop-t)) →
-    Num (to_z w64 c.loop-t.b -ℤ to_z w64 c.loop-t.a) (half_gap (entry c.args.m.now) c.args.half) 17179869184
+    Num (to_z w64 c.loop-t.b-bits -ℤ to_z w64 c.loop-t.a-bits) (half_gap (entry c.args.m.now) c.args.half) 17179869184
 unfolding half_gap
 both c =
     let L = c.loop-t in

@@ -1,12 +1,10 @@
 -- `demap::ranged::block` meets its contract: a turn adds one symbol's soft bits. Assumes nothing.
-use mathlib.Core.List.{◌++◌}
 use mathlib.Core.Path.{◌≡◌}
-use Prim.Native.Nat.{◌+◌, ◌-◌, ◌*◌, ◌/◌, ◌≤◌}
+use Prim.Native.Nat.{◌+◌, ◌*◌, ◌/◌, ◌≤◌}
 use native.Mathlib.Nat.{zero-mul, le_refl}
 use native.Mathlib.Omega.{arith}
-use borrow.Author.Rules.{rules}
 use lib.IntN.{pos}
-use lib.ListN.{length, get_or, drop}
+use lib.ListN.{length, get_or}
 use mir.Facts.{to_z-of_z}
 use mir.Syntax.{w16, w64}
 use mir.Val.{SFits, to_z, of_z}
@@ -27,10 +25,10 @@ module _ (c : (lts.In-loop tie.the-claims reads.Pre reads.Post goal.the-invarian
   place =
       turn c.loop-s.s (length c.args.sy.now / 2) c.args.bits (length c.args.out.now) (omega arith) c.requires.4
 
-  room : c.before.loop.s * c.before.before.args.bits + c.before.before.args.bits ≤ length c.before.loop.out
+  room : c.loop-s.s * c.args.bits + c.args.bits ≤ length c.loop-s.out
   room =
-      let S = c.before.before in
-      let L = c.before.loop in
+      let S = c in
+      let L = c.loop-s in
       rw (
         L.invariant.1,
         length_so_far S.args.sy.now S.args.points.now S.args.bits (to_z w64 (of_z w64 S.args.k)) L.s S.args.out.now

@@ -1,19 +1,16 @@
 -- `demap::ranged::lowest_label` meets its contract: each turn takes the search one label on. Assumes nothing.
 use mathlib.Core.Bool.{not}
 use mathlib.Core.Path.{◌≡◌, sym, ap, ◌∙◌}
-use Prim.Native.Nat.{ℕ, suc, ◌+◌, ◌-◌, ◌*◌, ◌≤◌, ◌<◌}
+use Prim.Native.Nat.{ℕ, suc, ◌+◌, ◌-◌, ◌*◌, ◌<◌}
 use native.Mathlib.Numerals.{add-one}
 use native.Mathlib.Omega.{arith}
-use borrow.Author.Rules.{rules}
 use lib.IntN.{pos}
 use lib.ListN.{get_or}
-use lib.Signed.{lt_z}
 use mir.Facts.{to_z-of_z}
 use mir.Syntax.{w16, w64}
 use mir.Val.{SFits, to_z, of_z}
 use Rattle.laws.proofs.First.{first_next, first_here, first-none}
 use Rattle.laws.proofs.Size.{fits, at, arg, lit, times, back}
-use Rattle.laws.specs.Ranges.{first_from}
 use Rattle.demap.specs.Demap.{label_metric, lowest_label}
 use Rattle.demap.specs.Folds.{label_by_twice}
 use Rattle.demap.proofs.Distances.{doubled, label_twice}

@@ -1,7 +1,6 @@
 -- `demap::ranged::soft` meets its contract. Assumes nothing.
 use mathlib.Core.Path.{ap, ◌∙◌}
 use native.Mathlib.Omega.{arith}
-use borrow.Author.Rules.{rules}
 use lib.IntN.{◌*ℤ◌}
 use mir.Syntax.{w8, w64}
 use mir.Val.{to_z, of_z}

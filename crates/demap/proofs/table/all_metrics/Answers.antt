@@ -1,20 +1,16 @@
 -- `demap::table::all_metrics` meets its contract: turn b puts the labels from 2^b to 2^(b + 1) there. Assumes nothing.
-use mathlib.Core.Logic.{⊎_elim}
 use mathlib.Core.Path.{◌≡◌}
-use Prim.Native.Nat.{ℕ, suc, ◌+◌, ◌-◌, ◌^◌, ◌≤◌, ◌<◌}
+use Prim.Native.Nat.{suc, ◌+◌, ◌^◌, ◌≤◌}
 use native.Mathlib.Nat.{not-suc-le-zero}
 use native.Mathlib.Numerals.{add-one}
 use native.Mathlib.Omega.{arith}
-use borrow.Author.Rules.{rules}
-use lib.ListN.{length}
 use lib.Pow.{pow_mono, pow_pos}
 use mir.Syntax.{w64}
-use mir.Val.{to_z}
 use Rattle.laws.proofs.Size.{fits, at, arg, lit, times}
-use Rattle.demap.specs.Folds.{label_by_twice, entry, Small}
 use Rattle.demap.proofs.Distances.{doubled, label_twice}
 use Rattle.demap.proofs.Fold.{pow2, shifted}
 use Rattle.demap.proofs.table.all_metrics.Goals as goal
+use Rattle.demap.proofs.table.all_metrics.Goals.{then-b-bits, else-b-bits}
 
 pub overflow_cast-ti : goal.overflow_cast-ti
 overflow_cast-ti c = fits w64 (arg c.ranges.yi) tt
@@ -69,18 +65,18 @@ pub loop-b-preserved : goal.loop-b-preserved
 loop-b-preserved c =
     let L = c.loop-b in
     let q : 2 ^ (L.b + 1) ≡ 2 ^ L.b + 2 ^ L.b = rw (add-one L.b) (pow2 L.b) in
-    ⊎_elim
-    (λ w. (
-      omega arith,
-      rw w.3 w.2.ensures.0,
-      λ l h k. rw w.3 (w.2.ensures.1 l (rw (shifted L.b L.invariant.0).0 (omega arith))),
-    ))
-    (λ w. (
-      omega arith,
-      rw w.1 L.invariant.1,
-      λ l h k. let p : 2 ^ c.args.bits ≤ 2 ^ L.b = pow_mono w.0.left in rw w.1 (L.invariant.2 l (omega arith) k),
-    ))
-    c.if-b-bits.branch
+    elim c.if-b-bits.branch [
+      | then-b-bits w ↦ (
+        omega arith,
+        rw w.m-is w.more_metrics-then-b-bits.ensures.0,
+        λ l h k. rw w.m-is (w.more_metrics-then-b-bits.ensures.1 l (rw (shifted L.b L.invariant.0).0 (omega arith))),
+      )
+      | else-b-bits w ↦ (
+        omega arith,
+        rw w.m-is L.invariant.1,
+        λ l h k. let p : 2 ^ c.args.bits ≤ 2 ^ L.b = pow_mono w.if-b-bits.false in rw w.m-is (L.invariant.2 l (omega arith) k),
+      )
+    ]
 
 pub returns : goal.returns
 returns c =

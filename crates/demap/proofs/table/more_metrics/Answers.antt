@@ -1,15 +1,14 @@
 -- `demap::table::more_metrics` meets its contract: a turn is one label more. Assumes nothing.
 use mathlib.Core.Path.{◌≡◌}
-use Prim.Native.Nat.{◌+◌, ◌-◌, ◌*◌, ◌≤◌}
+use Prim.Native.Nat.{◌+◌, ◌*◌}
 use native.Mathlib.Omega.{arith}
-use borrow.Author.Rules.{rules}
 use lib.IntN.{pos}
-use lib.ListN.{length, get_or, length-set}
+use lib.ListN.{get_or, length-set}
 use mir.Facts.{to_z-of_z}
 use mir.Syntax.{w16, w64}
 use mir.Val.{SFits, to_z, of_z}
 use Rattle.laws.proofs.Size.{back}
-use Rattle.demap.specs.Folds.{label_by_twice, Holds}
+use Rattle.demap.specs.Folds.{label_by_twice}
 use Rattle.demap.proofs.Tables.{holds_more}
 use Rattle.demap.proofs.table.more_metrics.Goals as goal
 

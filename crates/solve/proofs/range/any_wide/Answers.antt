@@ -1,5 +1,5 @@
 -- `solve::range::any_wide` meets its contract. Assumes nothing.
-use Rattle.std.proofs.Common.{◌≡◌, ◌-◌, ◌≤◌, ◌||◌, length, refl, ap₂, add-one, arith, to_z-of_z, rules}
+use Rattle.std.proofs.Common.{◌≡◌, ◌||◌, length, refl, ap₂, add-one, arith, to_z-of_z, rules}
 use Rattle.solve.specs.Answers.{wide_among}
 use Rattle.solve.proofs.range.any_wide.Goals as goal
 

@@ -1,4 +1,4 @@
-use Rattle.std.proofs.Common.{◌≡◌, ◌-◌, ◌≤◌, ◌||◌, length, refl, ap₂, add-one, arith, to_z-of_z, rules}
+use Rattle.std.proofs.Common.{◌≡◌, ◌-◌, ◌≤◌, length}
 use Rattle.solve.specs.Answers.{wide_among}
 use Rattle.solve.proofs.range.any_wide.Given as goal
 

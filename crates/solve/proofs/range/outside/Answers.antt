@@ -1,5 +1,4 @@
 -- `solve::range::outside` meets its contract. Assumes nothing.
-use Rattle.std.proofs.Common.{rules}
 use Rattle.solve.specs.Answers.{outside_of}
 use Rattle.solve.proofs.range.outside.Goals as goal
 

@@ -1,7 +1,7 @@
 -- `solve::system::matrix` meets its contract. Assumes nothing.
-use Rattle.std.proofs.Common.{◌≡◌, ◌-◌, ◌*◌, ◌/◌, ◌%◌, ◌≤◌, ◌++◌, drop, refl, ◌∙◌, arith, rules}
+use Rattle.std.proofs.Common.{refl, ◌∙◌, arith, rules}
 use Rattle.solve.proofs.Laws.{zeros, parts_turn, parts_ended}
-use Rattle.solve.specs.System.{parts, entry_of, matrix_of}
+use Rattle.solve.specs.System.{parts, matrix_of}
 use Rattle.solve.proofs.system.matrix.Goals as goal
 
 pub loop-k-init : goal.loop-k-init

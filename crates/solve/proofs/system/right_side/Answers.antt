@@ -1,7 +1,7 @@
 -- `solve::system::right_side` meets its contract. Assumes nothing.
-use Rattle.std.proofs.Common.{◌≡◌, ◌-◌, ◌*◌, ◌≤◌, ◌++◌, drop, refl, ◌∙◌, arith, rules}
+use Rattle.std.proofs.Common.{refl, ◌∙◌, arith, rules}
 use Rattle.solve.proofs.Laws.{zeros, parts_turn, parts_ended}
-use Rattle.solve.specs.System.{parts, pair_of, right_of}
+use Rattle.solve.specs.System.{parts, right_of}
 use Rattle.solve.proofs.system.right_side.Goals as goal
 
 pub loop-k-init : goal.loop-k-init

@@ -1,6 +1,6 @@
-use Rattle.std.proofs.Common.{◌≡◌, ◌-◌, ◌*◌, ◌≤◌, ◌++◌, drop, refl, ◌∙◌, arith, rules}
-use Rattle.solve.proofs.Laws.{zeros, parts_turn, parts_ended}
-use Rattle.solve.specs.System.{parts, pair_of, right_of}
+use Rattle.std.proofs.Common.{◌≡◌, ◌-◌, ◌*◌, ◌≤◌, ◌++◌, drop}
+use Rattle.solve.proofs.Laws.{zeros}
+use Rattle.solve.specs.System.{parts, pair_of}
 use Rattle.solve.proofs.system.right_side.Given as goal
 
 abbrev pub invariant-loop-k : goal.invariant-loop-k

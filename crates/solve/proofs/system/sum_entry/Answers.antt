@@ -1,5 +1,5 @@
 -- `solve::system::sum_entry` meets its contract. Assumes nothing.
-use Rattle.std.proofs.Common.{sym, rules, le-ltb, lt-ltb}
+use Rattle.std.proofs.Common.{sym, le-ltb, lt-ltb}
 use Rattle.laws.specs.Choice.{if_yes, if_no}
 use Rattle.solve.specs.System.{entry_of}
 use Rattle.solve.proofs.system.sum_entry.Goals as goal

@@ -1,5 +1,4 @@
 -- `solve::system::system` meets its contract. Assumes nothing.
-use Rattle.std.proofs.Common.{rules}
 use Rattle.solve.specs.System.{sums_system}
 use Rattle.solve.proofs.system.system.Goals as goal
 

@@ -1,5 +1,5 @@
 -- `solve::taps::answer` meets its contract. Assumes nothing.
-use Rattle.std.proofs.Common.{sym, ◌∙◌, rules, eq-eqb, ne_eqb}
+use Rattle.std.proofs.Common.{sym, ◌∙◌, eq-eqb, ne_eqb}
 use Rattle.laws.specs.Choice.{if_yes, if_no}
 use Rattle.solve.specs.Answers.{answer_of}
 use Rattle.solve.proofs.taps.answer.Goals as goal

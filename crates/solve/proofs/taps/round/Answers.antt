@@ -1,5 +1,5 @@
 -- `solve::taps::round` meets its contract. Assumes nothing.
-use Rattle.std.proofs.Common.{ℕ, pos, neg_ℤ, sym, ap, ◌∙◌, w16, rules}
+use Rattle.std.proofs.Common.{ℕ, pos, neg_ℤ, sym, ap, ◌∙◌, w16}
 use lib.Ieee.{of_bits}
 use mir.ValLaws.{to_z_pos}
 use Rattle.solve.proofs.Rounding.{rounded_pos, rounded_neg, rounded_zero, above_neg, kept, capped, full, negated, negated_fits}
