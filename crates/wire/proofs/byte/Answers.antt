@@ -38,5 +38,5 @@ returns-in-6 c = rw c.in-6.is
 pub returns-in_default : goal.returns-in_default
 unfolding byte_of
 returns-in_default c =
-    let e : c.args.j ≡ 7 = omega (arith, past 7 c.args.j c.in-0.rest, c.requires) in
+    let e : c.args.j ≡ 7 = omega arith in
     rw e

@@ -8,6 +8,7 @@ use mathlib.Core.Path.{◌∙◌, ◌≡◌, refl}
 use native.Mathlib.Omega.{arith}
 use Rattle.fields.specs.Fields.{one_at, ones_at}
 use mir.Facts.{to_z-of_z}
+use mir.Syntax.{w8}
 use borrow.Author.Rules.{rules}
 use Rattle.fields.proofs.ranged.ones_at.Goals as goal
 
@@ -20,7 +21,7 @@ unfolding one_at
 loop-k-preserved c =
     let s = c.args in
     let ys = c.no_ones-t.result in
-    (omega arith, rw c.loop-k.invariant.1 (firsts-step (one_at s.bytes.now s.from) ys c.loop-k.k _ (to_z-of_z (record { sfits = c.one.type_inv }) ∙ c.one.ensures) (omega (arith, c.no_ones-t.ensures))))
+    (omega arith, rw c.loop-k.invariant.1 (firsts-step (one_at s.bytes.now s.from) ys c.loop-k.k _ (to_z-of_z {w = w8} (record { sfits = c.one.type_inv }) ∙ c.one.ensures) (omega (arith, c.no_ones-t.ensures))))
 
 pub returns : goal.returns
 unfolding ones_at
