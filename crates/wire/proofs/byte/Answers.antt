@@ -1,7 +1,5 @@
 -- `wire::byte` meets its contract. Assumes nothing.
-use Rattle.wire.proofs.Laws.{past}
 use Rattle.wire.specs.Wire.{byte_of}
-use borrow.Author.Rules.{rules}
 use mathlib.Core.Path.{◌≡◌}
 use native.Mathlib.Nat.{div-one}
 use native.Mathlib.Omega.{arith}

@@ -1,15 +1,13 @@
 -- `fields::ranged::ones_at` meets its contract. Assumes nothing.
-use Prim.Native.Nat.{ℕ, ◌+◌, ◌-◌, ◌≤◌}
 use Rattle.laws.proofs.Lists.{firsts-step}
 use Rattle.laws.specs.Ranges.{firsts}
 use lib.ListN.{drop, drop_of_length-le}
-use mathlib.Core.List.{[], ◌++◌, append-nil}
+use mathlib.Core.List.{[], append-nil}
 use mathlib.Core.Path.{◌∙◌, ◌≡◌, refl}
 use native.Mathlib.Omega.{arith}
 use Rattle.fields.specs.Fields.{one_at, ones_at}
 use mir.Facts.{to_z-of_z}
 use mir.Syntax.{w8}
-use borrow.Author.Rules.{rules}
 use Rattle.fields.proofs.ranged.ones_at.Goals as goal
 
 pub loop-k-init : goal.loop-k-init

@@ -1,6 +1,5 @@
 -- `fields::ranged::pair` meets its contract. Assumes nothing.
 use Rattle.fields.specs.Fields.{pair_of}
-use borrow.Author.Rules.{rules}
 use mathlib.Core.Path.{◌∙◌}
 use mir.Facts.{to_z-of_z}
 use mir.Syntax.{w16}

@@ -1,5 +1,4 @@
 -- `fields::ranged::pair_at` meets its contract. Assumes nothing.
-use borrow.Author.Rules.{rules}
 use Rattle.fields.specs.Fields.{pair_at}
 use mathlib.Core.Path.{◌∙◌}
 use mir.Facts.{to_z-of_z}
