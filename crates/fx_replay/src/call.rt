@@ -68,5 +68,5 @@ pub(crate) fn replace(table: &[i16], buf: &mut [u8], at: usize)
     ensures { buf.new ≡ paste buf.old at (answer_bytes table.now (drop at buf.old)) 24 }
 {
     let answer = answer_bytes(table, &buf[at..]);
-    bytes::copy(&answer, &mut buf[at..]);
+    wire::streams::put(&answer, buf, at);
 }

@@ -9,6 +9,9 @@ mod call;
 ghost use Rattle.std.specs.Prelude.{◌≡◌, ◌*◌, ◌≤◌, length};
 ghost use Rattle.fx_replay.specs.Replay.{replayed};
 
+use std::io;
+use std::io::Write;
+
 // 1,024 calls.
 const BLOCK: usize = 24576;
 
@@ -32,51 +35,49 @@ fn replay(table: &[i16], buf: &mut [u8], n: usize)
     }
 }
 
-// Reads a block of calls and writes their answers. A write that fails ends the replay.
-fn block(table: &[i16], buf: &mut [u8]) -> Next {
-    let got = io::read_full(0, buf);
+// Reads a block of calls and writes their answers.
+fn block(rt: &HostRuntime, table: &[i16], buf: &mut [u8]) -> io::Result<Next> {
+    let got = wire::streams::read_full(&mut rt.stdin(), buf)?;
     let n = got / 24;
     let whole = 24 * n;
     replay(table, buf, n);
-    let written = io::write_all(1, &buf[..whole]);
+    rt.stdout().write_all(&buf[..whole])?;
     if whole < got {
-        Next::Short
+        Ok(Next::Short)
     } else if got < buf.len() {
-        Next::Nothing
-    } else if written {
-        Next::Block
+        Ok(Next::Nothing)
     } else {
-        Next::Nothing
+        Ok(Next::Block)
     }
 }
 
 // A proved loop has to end, and nothing says that the input does: the turns are counted down from a number that no run uses up.
-fn blocks(table: &[i16], buf: &mut [u8]) {
+fn blocks(rt: &HostRuntime, table: &[i16], buf: &mut [u8]) -> io::Result<()> {
     let mut turns = u64::MAX;
     while 0 < turns {
-        match block(table, buf) {
+        match block(rt, table, buf)? {
             Next::Block => {
                 turns -= 1;
             }
             Next::Nothing => {
-                return;
+                return Ok(());
             }
             Next::Short => {
-                io::write_all(2, b"the input ends within a call\n");
-                return;
+                return rt.stderr().write_all(b"the input ends within a call\n");
             }
         }
     }
+    Ok(())
 }
 
-fn main() {
+// A read or a write that fails ends the replay with its error.
+fn main(rt: HostRuntime) -> io::Result<()> {
     let mut bytes = [0u8; 2048];
-    let got = io::read_full(0, &mut bytes);
+    let got = wire::streams::read_full(&mut rt.stdin(), &mut bytes)?;
     if got < 2048 {
-        io::write_all(2, b"the input ends within the carrier table\n");
-        return;
+        return rt.stderr().write_all(b"the input ends within the carrier table\n");
     }
     let table = wire::table(&bytes);
     let mut buf = [0u8; BLOCK];
-    blocks(&table, &mut buf);
+    blocks(&rt, &table, &mut buf)
 }

@@ -2,6 +2,7 @@
 #![tactic(auto)]
 
 pub mod ranged;
+pub mod streams;
 
 ghost use Rattle.std.specs.Prelude.{◌≡◌, ◌++◌, ◌+◌, ◌*◌, ◌<◌, ◌%◌, ◌^◌, length};
 ghost use Rattle.wire.specs.Wire.{signed, bits, byte_of, bytes_of, packed_of, entries_of};

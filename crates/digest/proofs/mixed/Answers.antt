@@ -1,6 +1,5 @@
 -- `digest::mixed` meets its contract. Assumes nothing.
 use Rattle.digest.proofs.Laws.{halves}
-use Rattle.std.proofs.Common.{rules}
 use Rattle.digest.proofs.mixed.Goals as goal
 
 pub returns : goal.returns

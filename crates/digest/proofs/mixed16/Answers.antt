@@ -1,5 +1,5 @@
 -- `digest::mixed16` meets its contract. Assumes nothing.
-use Rattle.std.proofs.Common.{to_z-of_z, rules}
+use Rattle.std.proofs.Common.{to_z-of_z}
 use Rattle.digest.proofs.mixed16.Goals as goal
 
 pub returns : goal.returns

@@ -1,5 +1,5 @@
 -- `digest::mixed8` meets its contract. Assumes nothing.
-use Rattle.std.proofs.Common.{arith, to_z-of_z, rules}
+use Rattle.std.proofs.Common.{arith, to_z-of_z}
 use Rattle.digest.proofs.mixed8.Goals as goal
 
 pub overflow_cast-v : goal.overflow_cast-v

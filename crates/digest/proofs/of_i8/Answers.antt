@@ -1,7 +1,7 @@
 -- `digest::of_i8` meets its contract. Assumes nothing.
-use Rattle.std.proofs.Common.{◌≡◌, ◌-◌, ◌≤◌, length, get_or, pos, ◌∙◌, arith, w8, rules}
+use Rattle.std.proofs.Common.{◌≡◌, length, get_or, pos, ◌∙◌, arith, w8}
 use Rattle.laws.proofs.Size.{back}
-use Rattle.digest.specs.Digest.{digest_to, digest_of}
+use Rattle.digest.specs.Digest.{digest_of}
 use Rattle.digest.proofs.Laws.{digest_more, digest_none}
 use Rattle.digest.proofs.of_i8.Goals as goal
 

@@ -1,7 +1,5 @@
-use Rattle.std.proofs.Common.{◌≡◌, ◌-◌, ◌≤◌, length, get_or, pos, ◌∙◌, arith, w8, rules}
-use Rattle.laws.proofs.Size.{back}
-use Rattle.digest.specs.Digest.{digest_to, digest_of}
-use Rattle.digest.proofs.Laws.{digest_more, digest_none}
+use Rattle.std.proofs.Common.{◌≡◌, ◌-◌, ◌≤◌, length}
+use Rattle.digest.specs.Digest.{digest_to}
 use Rattle.digest.proofs.of_i8.Given as goal
 
 abbrev pub invariant-loop-k : goal.invariant-loop-k

@@ -1,7 +1,7 @@
 -- `digest::of_u32` meets its contract. Assumes nothing.
-use Rattle.std.proofs.Common.{◌≡◌, ◌-◌, ◌≤◌, length, ◌∙◌, arith, rules}
+use Rattle.std.proofs.Common.{◌≡◌, length, ◌∙◌, arith}
 use Rattle.digest.proofs.Laws.{naturals_more, naturals_none}
-use Rattle.digest.specs.Digest.{naturals_of, naturals_to}
+use Rattle.digest.specs.Digest.{naturals_of}
 use Rattle.digest.proofs.of_u32.Goals as goal
 
 pub loop-k-init : goal.loop-k-init

@@ -1,6 +1,5 @@
-use Rattle.std.proofs.Common.{◌≡◌, ◌-◌, ◌≤◌, length, ◌∙◌, arith, rules}
-use Rattle.digest.proofs.Laws.{naturals_more, naturals_none}
-use Rattle.digest.specs.Digest.{naturals_of, naturals_to}
+use Rattle.std.proofs.Common.{◌≡◌, ◌-◌, ◌≤◌, length}
+use Rattle.digest.specs.Digest.{naturals_to}
 use Rattle.digest.proofs.of_u32.Given as goal
 
 abbrev pub invariant-loop-k : goal.invariant-loop-k

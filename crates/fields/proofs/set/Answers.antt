@@ -2,7 +2,6 @@
 use Rattle.fields.specs.Fields.{set_of}
 use mir.Facts.{to_z-of_z}
 use Rattle.laws.specs.Choice.{cases}
-use borrow.Author.Rules.{rules}
 use Rattle.fields.proofs.set.Goals as goal
 
 pub returns-then-k-l : goal.returns-then-k-l

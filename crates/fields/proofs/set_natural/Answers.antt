@@ -1,5 +1,4 @@
 -- `fields::set_natural` meets its contract. Assumes nothing.
-use borrow.Author.Rules.{rules}
 use Rattle.fields.specs.Fields.{set_natural_of}
 use Rattle.laws.specs.Choice.{cases}
 use Rattle.fields.proofs.set_natural.Goals as goal

@@ -1,14 +1,14 @@
 -- `fields::sixteens` meets its contract. Assumes nothing.
-use Prim.Native.Nat.{ℕ, ◌+◌, ◌-◌, ◌≤◌}
+use Prim.Native.Nat.{ℕ, ◌+◌}
 use Rattle.laws.proofs.Lists.{firsts-step}
 use Rattle.laws.specs.Ranges.{firsts}
 use lib.ListN.{drop, drop_of_length-le}
-use mathlib.Core.List.{[], ◌++◌, append-nil}
+use mathlib.Core.List.{[], append-nil}
 use mathlib.Core.Path.{◌∙◌, ◌≡◌, refl}
 use native.Mathlib.Omega.{arith}
 use Rattle.fields.specs.Fields.{signed16, sixteens_of}
 use mir.Facts.{to_z-of_z}
-use borrow.Author.Rules.{rules}
+use mir.Syntax.{w16}
 use Rattle.fields.proofs.sixteens.Goals as goal
 
 pub loop-k-init : goal.loop-k-init
@@ -19,7 +19,7 @@ pub loop-k-preserved : goal.loop-k-preserved
 loop-k-preserved c =
     let s = c.args in
     let ys = c.no_sixteens-t.result in
-    (omega arith, rw c.loop-k.invariant.1 (firsts-step (λ (k : ℕ). signed16 s.p.now (k + 2)) ys c.loop-k.k _ (to_z-of_z (record { sfits = c.signed16.type_inv }) ∙ c.signed16.ensures) (omega (arith, c.no_sixteens-t.ensures))))
+    (omega arith, rw c.loop-k.invariant.1 (firsts-step (λ (k : ℕ). signed16 s.p.now (k + 2)) ys c.loop-k.k _ (to_z-of_z {w = w16} (record { sfits = c.signed16.type_inv }) ∙ c.signed16.ensures) (omega (arith, c.no_sixteens-t.ensures))))
 
 pub returns : goal.returns
 unfolding sixteens_of

@@ -1,17 +1,13 @@
 use Prim.Native.Nat.{ℕ, ◌+◌, ◌-◌, ◌≤◌}
-use Rattle.laws.proofs.Lists.{firsts-step}
 use Rattle.laws.specs.Ranges.{firsts}
-use lib.ListN.{drop, drop_of_length-le}
-use mathlib.Core.List.{[], ◌++◌, append-nil}
-use mathlib.Core.Path.{◌∙◌, ◌≡◌, refl}
-use native.Mathlib.Omega.{arith}
-use Rattle.fields.specs.Fields.{signed16, sixteens_of}
-use mir.Facts.{to_z-of_z}
-use borrow.Author.Rules.{rules}
+use lib.ListN.{drop}
+use mathlib.Core.List.{◌++◌}
+use mathlib.Core.Path.{◌≡◌}
+use Rattle.fields.specs.Fields.{signed16}
 use Rattle.fields.proofs.sixteens.Given as goal
 
 abbrev pub invariant-loop-k : goal.invariant-loop-k
-invariant-loop-k l = (l.k ≤ 22) × (l.t ≡ firsts (λ (l.k : ℕ). signed16 l.p (l.k + 2)) l.k ++ drop l.k l.initial.t)
+invariant-loop-k l = (l.k ≤ 22) × (l.t ≡ firsts (λ (k : ℕ). signed16 l.p (k + 2)) l.k ++ drop l.k l.initial.t)
 
 abbrev pub decreases-loop-k : goal.decreases-loop-k
 decreases-loop-k l = 22 - l.k

@@ -1,7 +1,6 @@
 -- `wire::bits32` meets its contract. Assumes nothing.
 use native.Mathlib.Omega.{arith}
 use mir.Facts.{to_z-of_z}
-use borrow.Author.Rules.{rules}
 use Rattle.wire.proofs.bits32.Goals as goal
 
 pub overflow_cast-v : goal.overflow_cast-v

@@ -1,7 +1,5 @@
 -- `wire::byte` meets its contract. Assumes nothing.
-use Rattle.wire.proofs.Laws.{past}
 use Rattle.wire.specs.Wire.{byte_of}
-use borrow.Author.Rules.{rules}
 use mathlib.Core.Path.{◌≡◌}
 use native.Mathlib.Nat.{div-one}
 use native.Mathlib.Omega.{arith}
@@ -38,5 +36,5 @@ returns-in-6 c = rw c.in-6.is
 pub returns-in_default : goal.returns-in_default
 unfolding byte_of
 returns-in_default c =
-    let e : c.args.j ≡ 7 = omega (arith, past 7 c.args.j c.in-0.rest, c.requires) in
+    let e : c.args.j ≡ 7 = omega arith in
     rw e

@@ -1,7 +1,6 @@
 -- `wire::bytes` meets its contract. Assumes nothing.
 use native.Mathlib.Nat.{div-one}
 use Rattle.wire.specs.Wire.{byte_of, bytes_of}
-use borrow.Author.Rules.{rules}
 use Rattle.wire.proofs.bytes.Goals as goal
 
 pub returns : goal.returns

@@ -1,14 +1,12 @@
 -- `wire::table` meets its contract. Assumes nothing.
 use mathlib.Core.Path.{◌≡◌, refl, ◌∙◌}
-use mathlib.Core.List.{[], ◌++◌, append-nil}
-use Prim.Native.Nat.{◌-◌, ◌≤◌}
+use mathlib.Core.List.{[], append-nil}
 use native.Mathlib.Omega.{arith}
 use lib.ListN.{drop, drop_of_length-le}
 use mir.Facts.{to_z-of_z}
 use Rattle.laws.proofs.Lists.{firsts-step}
 use Rattle.laws.specs.Ranges.{firsts}
 use Rattle.wire.specs.Wire.{entry_at, entries_of}
-use borrow.Author.Rules.{rules}
 use Rattle.wire.proofs.table.Goals as goal
 
 pub loop-i-init : goal.loop-i-init

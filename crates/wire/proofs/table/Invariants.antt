@@ -1,13 +1,9 @@
-use mathlib.Core.Path.{◌≡◌, refl, ◌∙◌}
-use mathlib.Core.List.{[], ◌++◌, append-nil}
+use mathlib.Core.Path.{◌≡◌}
+use mathlib.Core.List.{◌++◌}
 use Prim.Native.Nat.{◌-◌, ◌≤◌}
-use native.Mathlib.Omega.{arith}
-use lib.ListN.{drop, drop_of_length-le}
-use mir.Facts.{to_z-of_z}
-use Rattle.laws.proofs.Lists.{firsts-step}
+use lib.ListN.{drop}
 use Rattle.laws.specs.Ranges.{firsts}
-use Rattle.wire.specs.Wire.{entry_at, entries_of}
-use borrow.Author.Rules.{rules}
+use Rattle.wire.specs.Wire.{entry_at}
 use Rattle.wire.proofs.table.Given as goal
 
 abbrev pub invariant-loop-i : goal.invariant-loop-i

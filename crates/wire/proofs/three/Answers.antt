@@ -1,6 +1,5 @@
 -- `wire::three` meets its contract. Assumes nothing.
 use Rattle.wire.specs.Wire.{bytes_of}
-use borrow.Author.Rules.{rules}
 use Rattle.wire.proofs.three.Goals as goal
 
 pub returns : goal.returns

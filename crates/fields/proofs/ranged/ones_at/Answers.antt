@@ -1,14 +1,13 @@
 -- `fields::ranged::ones_at` meets its contract. Assumes nothing.
-use Prim.Native.Nat.{ℕ, ◌+◌, ◌-◌, ◌≤◌}
 use Rattle.laws.proofs.Lists.{firsts-step}
 use Rattle.laws.specs.Ranges.{firsts}
 use lib.ListN.{drop, drop_of_length-le}
-use mathlib.Core.List.{[], ◌++◌, append-nil}
+use mathlib.Core.List.{[], append-nil}
 use mathlib.Core.Path.{◌∙◌, ◌≡◌, refl}
 use native.Mathlib.Omega.{arith}
 use Rattle.fields.specs.Fields.{one_at, ones_at}
 use mir.Facts.{to_z-of_z}
-use borrow.Author.Rules.{rules}
+use mir.Syntax.{w8}
 use Rattle.fields.proofs.ranged.ones_at.Goals as goal
 
 pub loop-k-init : goal.loop-k-init
@@ -20,7 +19,7 @@ unfolding one_at
 loop-k-preserved c =
     let s = c.args in
     let ys = c.no_ones-t.result in
-    (omega arith, rw c.loop-k.invariant.1 (firsts-step (one_at s.bytes.now s.from) ys c.loop-k.k _ (to_z-of_z (record { sfits = c.one.type_inv }) ∙ c.one.ensures) (omega (arith, c.no_ones-t.ensures))))
+    (omega arith, rw c.loop-k.invariant.1 (firsts-step (one_at s.bytes.now s.from) ys c.loop-k.k _ (to_z-of_z {w = w8} (record { sfits = c.one.type_inv }) ∙ c.one.ensures) (omega (arith, c.no_ones-t.ensures))))
 
 pub returns : goal.returns
 unfolding ones_at

@@ -1,13 +1,9 @@
-use Prim.Native.Nat.{ℕ, ◌+◌, ◌-◌, ◌≤◌}
-use Rattle.laws.proofs.Lists.{firsts-step}
+use Prim.Native.Nat.{◌-◌, ◌≤◌}
 use Rattle.laws.specs.Ranges.{firsts}
-use lib.ListN.{drop, drop_of_length-le}
-use mathlib.Core.List.{[], ◌++◌, append-nil}
-use mathlib.Core.Path.{◌∙◌, ◌≡◌, refl}
-use native.Mathlib.Omega.{arith}
-use Rattle.fields.specs.Fields.{one_at, ones_at}
-use mir.Facts.{to_z-of_z}
-use borrow.Author.Rules.{rules}
+use lib.ListN.{drop}
+use mathlib.Core.List.{◌++◌}
+use mathlib.Core.Path.{◌≡◌}
+use Rattle.fields.specs.Fields.{one_at}
 use Rattle.fields.proofs.ranged.ones_at.Given as goal
 
 abbrev pub invariant-loop-k : goal.invariant-loop-k

@@ -1,13 +1,11 @@
 -- `wire::ranged::numbers` meets its contract. Assumes nothing.
 use mathlib.Core.Path.{◌≡◌, refl, ◌∙◌}
-use mathlib.Core.List.{[], ◌++◌, append-nil}
-use Prim.Native.Nat.{◌-◌, ◌≤◌}
+use mathlib.Core.List.{[], append-nil}
 use native.Mathlib.Omega.{arith}
 use lib.ListN.{drop, drop_of_length-le}
 use Rattle.laws.proofs.Lists.{firsts-step}
 use Rattle.laws.specs.Ranges.{firsts}
 use Rattle.wire.specs.Wire.{number_at, numbers_of}
-use borrow.Author.Rules.{rules}
 use Rattle.wire.proofs.ranged.numbers.Goals as goal
 
 pub loop-k-init : goal.loop-k-init

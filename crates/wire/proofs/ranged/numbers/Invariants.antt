@@ -1,12 +1,9 @@
-use mathlib.Core.Path.{◌≡◌, refl, ◌∙◌}
-use mathlib.Core.List.{[], ◌++◌, append-nil}
+use mathlib.Core.Path.{◌≡◌}
+use mathlib.Core.List.{◌++◌}
 use Prim.Native.Nat.{◌-◌, ◌≤◌}
-use native.Mathlib.Omega.{arith}
-use lib.ListN.{drop, drop_of_length-le}
-use Rattle.laws.proofs.Lists.{firsts-step}
+use lib.ListN.{drop}
 use Rattle.laws.specs.Ranges.{firsts}
-use Rattle.wire.specs.Wire.{number_at, numbers_of}
-use borrow.Author.Rules.{rules}
+use Rattle.wire.specs.Wire.{number_at}
 use Rattle.wire.proofs.ranged.numbers.Given as goal
 
 abbrev pub invariant-loop-k : goal.invariant-loop-k

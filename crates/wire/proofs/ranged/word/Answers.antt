@@ -1,6 +1,5 @@
 -- `wire::ranged::word` meets its contract. Assumes nothing.
 use Rattle.wire.specs.Wire.{word_at}
-use borrow.Author.Rules.{rules}
 use Rattle.wire.proofs.ranged.word.Goals as goal
 
 pub returns : goal.returns
