@@ -3,7 +3,7 @@ use Prim.Native.Nat.{◌%◌, ◌+◌, ◌-◌, ◌/◌, ◌<◌, ◌≤◌, suc
 use Rattle.laws.proofs.Tests.{by_test}
 use Rattle.laws.specs.Choice.{if_no, if_yes}
 use Rattle.sync.specs.Sync.{kept_window, started_sync, stored_of, symbol_of, window_after}
-use Rattle.sync_corr.specs.Correlate.{at, both_of}
+use Rattle.sync_corr.specs.Correlate.{both_of}
 use Rattle.sync_heads.specs.declared.Record.{Record}
 use Rattle.sync_history.specs.Claims.{lock_to}
 use Rattle.sync_history.specs.History.{acc_after, figures_to}
@@ -27,7 +27,6 @@ use lib.ListN.{get_or, get_or-replicate, length, length-replicate, length-set, s
 use lib.Seq.{get_or-set_other, get_or-set_same}
 use mathlib.Core.Bool.{false}
 use mathlib.Core.List.{List}
-use mathlib.Core.Option.{none}
 use mathlib.Core.Path.{◌∙◌, ◌≡◌, ap, refl, subst, sym}
 use native.Mathlib.Nat.{zero-div, zero-mod}
 use native.Mathlib.Numerals.{add-one}

@@ -1,5 +1,5 @@
 -- The loss by markers, as a test of a position, is the loss by markers. Assumes nothing.
-use Prim.Native.Nat.{◌%◌, ◌*◌, ◌+◌, ◌-◌, ◌/◌, ◌<◌, ℕ}
+use Prim.Native.Nat.{◌%◌, ◌*◌, ◌+◌, ◌/◌, ◌<◌, ℕ}
 use Rattle.laws.proofs.Tests.{and_both, never}
 use Rattle.sync_heads.specs.declared.Record.{Record}
 use Rattle.sync_history.proofs.Found.{lock-found}

@@ -1,6 +1,5 @@
 -- Positions and places: the whole periods before a position, and its place in its own. Assumes nothing.
 use Prim.Native.Nat.{◌%◌, ◌*◌, ◌+◌, ◌-◌, ◌/◌, ◌<◌, suc, ℕ}
-use Rattle.sync_corr.specs.Correlate.{at}
 use mathlib.Core.Path.{◌∙◌, ◌≡◌}
 use native.Mathlib.Nat.{div-add-mod', div-eq_of_lt, mod-eq_of_lt, mod-lt, mul-add-div_right, mul-add-mod_self_right, zero-div, zero-mod}
 use native.Mathlib.Omega.{arith}

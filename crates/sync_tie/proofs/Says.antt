@@ -21,7 +21,6 @@ use borrow.Author.Tests.{le-ltb, lt-ltb}
 use lib.Dec.{ltb}
 use mathlib.Core.Bool.{true}
 use mathlib.Core.List.{List}
-use mathlib.Core.Option.{none}
 use mathlib.Core.Path.{◌∙◌, ◌≡◌, ap, refl, sym}
 
 alone : (n start : ℕ) (last : Record) (b : ℕ → Both) (i : ℕ) → markers_lose b i ≡ true → second_told n start last b i ≡ NoHead

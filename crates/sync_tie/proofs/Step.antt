@@ -1,5 +1,4 @@
 -- What the step makes of a sync that stands as the pushes say: its events, and the sync after it. Assumes nothing.
-use Rattle.laws.specs.Choice as choice
 use Prim.Native.Nat.{◌%◌, ◌+◌, ◌-◌, ◌/◌, ◌<◌, suc, ℕ}
 use Rattle.laws.proofs.Tests.{by_test, if_ap, never}
 use Rattle.laws.specs.Choice.{if_no, if_yes, if◌then◌else◌}

@@ -3,7 +3,6 @@ use Prim.Native.Nat.{◌+◌, ◌-◌, ◌<◌, ◌≤◌, suc, zero, ℕ}
 use Rattle.laws.proofs.Tests.{by_test}
 use Rattle.laws.specs.Choice.{if_no, if_yes}
 use Rattle.sync.specs.Sync.{kept_window, started_sync, stored_of}
-use Rattle.sync_corr.specs.Correlate.{at}
 use Rattle.sync_heads.specs.declared.Record.{Record}
 use Rattle.sync_step.specs.Events.{no_corr, no_events}
 use Rattle.sync_step.specs.Step.{early_of, started_of}

@@ -1,9 +1,8 @@
 -- The window after m pushes is the last 24 of them, with zeros before the first. Assumes nothing.
 use Prim.Native.Nat.{◌+◌, ◌<◌, suc, ℕ}
 use Rattle.sync.specs.Sync.{no_window, window_after}
-use Rattle.sync_corr.specs.Correlate.{at}
 use Rattle.sync_tie.specs.Pushes.{Push, flat, no_push}
-use lib.IntN.{one, ℤ}
+use lib.IntN.{ℤ}
 use lib.ListN.{drop, get_or, length, length-append, length-drop, replicate, take}
 use lib.Seq.{drop-append-add, drop-drop, get_or-append-add, get_or-drop, take-suc}
 use mathlib.Core.List.{List, [], ◌++◌, ◌∷◌}

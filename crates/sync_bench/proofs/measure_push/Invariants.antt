@@ -1,12 +1,7 @@
-use Prim.Native.Nat.{◌-◌, ◌/◌, ◌≤◌}
-use Rattle.sync.specs.Answers.{new_acc, new_answer}
-use Rattle.sync_bench.proofs.Laws.{push_more}
-use Rattle.sync_bench.specs.Streams.{Flow, flow, new_flow, push_many, pushed_acc, pushed_stream, streamed}
-use borrow.Author.Rules.{rules}
+use Prim.Native.Nat.{◌-◌, ◌≤◌}
+use Rattle.sync_bench.specs.Streams.{flow, push_many}
 use lib.ListN.{length}
-use mathlib.Core.Path.{◌∙◌, ◌≡◌, ap, refl}
-use mir.Facts.{to_z-of_z}
-use native.Mathlib.Omega.{arith}
+use mathlib.Core.Path.{◌≡◌}
 use Rattle.sync_bench.proofs.measure_push.Given as goal
 
 abbrev pub invariant-loop-k : goal.invariant-loop-k
