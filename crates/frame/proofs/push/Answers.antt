@@ -7,7 +7,7 @@ use Rattle.frame.proofs.Laws.{push_ok}
 use Rattle.frame.proofs.push.Goals as goal
 
 pub pushed-requires : goal.pushed-requires
-pushed-requires c = let a = c.args in push_ok a.b a.c a.t3 a.t4 (sym c.push-n.ensures ∙ c.if-n-eq0.true)
+pushed-requires c = let a = c.args in push_ok a.b a.c a.f a.s (sym c.push-n.ensures ∙ c.if-n-eq0.true)
 
 pub returns-then-n-eq0 : goal.returns-then-n-eq0
 unfolding push_answer

@@ -10,8 +10,7 @@ use Rattle.phase_bench.proofs.measure_correct.Goals as goal
 pub correct_all-requires : goal.correct_all-requires
 correct_all-requires c =
     let a = c.args in
-    let d = c.d-1.given in
-    let o = subst DueOk d.1 c.due-d.ensures.1 in
+    let o = subst DueOk c.in-Slot.is c.due-d.ensures.1 in
     let l = lengths a.table.now a.store.now (places a.y.now a.phi.now a.gain.now) c.if-fit.true in
     (o.0, o.1, l.table, l.store, l.y, l.phi, l.gain)
 

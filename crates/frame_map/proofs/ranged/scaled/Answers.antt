@@ -11,7 +11,7 @@ use Rattle.frame_map.proofs.ranged.scaled.Goals as goal
 
 -- an entry of a word in 16 bits
 widened : (z : ℤ) → SFits w8 z → nat_abs z ≤ 1 → Num (to_z w16 (of_z w16 (to_z w8 (of_z w8 z)))) z 1
-widened z h k = record { is = rw (to_z-of_z h) (to_z-of_z (sfits_widen {w = w8} tt h)); size = k }
+widened z h k = record { is = rw (to_z-of_z {w = w8} h) (to_z-of_z {w = w16} (sfits_widen {w = w8} {w' = w16} tt h)); size = k }
 
 pub overflow_cast-result : goal.overflow_cast-result
 overflow_cast-result c = let h = c.ranges.s in rw (to_z-of_z h) (sfits_widen {w = w8} tt h)

@@ -28,7 +28,7 @@ returns c =
       c.scaled.ensures,
       back w16 (get_or st (2 * j) (pos 0)) i.given,
       back w16 (get_or st (2 * j + 1) (pos 0)) q.given,
-      to_z-of_z (record { sfits = g.type_inv }),
+      to_z-of_z {w = w64} (record { sfits = g.type_inv }),
       rw (eg, em) at g.ensures.0,
       rw ed at p.ensures,
     )

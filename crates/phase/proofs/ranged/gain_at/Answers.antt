@@ -32,7 +32,7 @@ moved c =
     let n = at w64 (step c.before) tt in
     let v = c.args.gamma *ℤ pos c.args.j in
     record {
-      is = to_z-of_z (record { sfits = c.round_shift.type_inv }) ∙ rw n.is at c.round_shift.ensures;
+      is = to_z-of_z {w = w64} (record { sfits = c.round_shift.type_inv }) ∙ rw n.is at c.round_shift.ensures;
       size = omega (arith, round_near v 16 (omega arith), n.size);
     }
 

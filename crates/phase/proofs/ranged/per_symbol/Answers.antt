@@ -24,4 +24,4 @@ round_shift-requires c = let n = at w64 (product c) tt in rw n.is (omega (arith,
 
 pub returns : goal.returns
 unfolding per_symbol
-returns c = to_z-of_z (record { sfits = c.round_shift.type_inv }) ∙ rw (at w64 (product c.before) tt).is at c.round_shift.ensures
+returns c = to_z-of_z {w = w64} (record { sfits = c.round_shift.type_inv }) ∙ rw (at w64 (product c.before) tt).is at c.round_shift.ensures

@@ -27,7 +27,7 @@ pub round_shift-requires : goal.round_shift-requires
 round_shift-requires c = let n = at w64 (step c) tt in rw n.is (omega (arith, n.size), omega arith)
 
 moved : (c : (lts.After-round_shift tie.the-claims reads.Pre reads.Post)) → to_z w64 (of_z w64 c.round_shift.result) ≡ round_shift (c.args.delta *ℤ pos c.args.j) 16
-moved c = to_z-of_z (record { sfits = c.round_shift.type_inv }) ∙ rw (at w64 (step c.before) tt).is at c.round_shift.ensures
+moved c = to_z-of_z {w = w64} (record { sfits = c.round_shift.type_inv }) ∙ rw (at w64 (step c.before) tt).is at c.round_shift.ensures
 
 pub turn_on-requires : goal.turn_on-requires
 turn_on-requires c =

@@ -18,7 +18,7 @@ use Rattle.phase.proofs.ranged.scaled.Goals as goal
 
 -- a 16-bit part in 64 bits
 widened : (z : ℤ) → SFits w16 z → to_z w64 (of_z w64 (to_z w16 (of_z w16 z))) ≡ z
-widened z h = rw (to_z-of_z h) (to_z-of_z (sfits_widen {w = w16} tt h))
+widened z h = rw (to_z-of_z {w = w16} h) (to_z-of_z {w = w64} (sfits_widen {w = w16} {w' = w64} tt h))
 
 pub overflow_cast-i : goal.overflow_cast-i
 overflow_cast-i c = let h = c.ranges.i in rw (to_z-of_z h) (sfits_widen {w = w16} tt h)
@@ -73,8 +73,8 @@ returns c =
     let u = c.round_shift in
     let v = c.round_shift-2 in
     rw (
-      to_z-of_z (record { sfits = c.sat16.type_inv }),
-      to_z-of_z (record { sfits = c.sat16-2.type_inv }),
-      rw (to_z-of_z (record { sfits = u.type_inv }), rw n.is at u.ensures, turned c.before.before.before.before.before.before, e) at c.sat16.ensures,
-      rw (to_z-of_z (record { sfits = v.type_inv }), rw m.is at v.ensures, turned c.before.before.before.before.before.before, e) at c.sat16-2.ensures,
+      to_z-of_z {w = w16} (record { sfits = c.sat16.type_inv }),
+      to_z-of_z {w = w16} (record { sfits = c.sat16-2.type_inv }),
+      rw (to_z-of_z {w = w64} (record { sfits = u.type_inv }), rw n.is at u.ensures, turned c.before.before.before.before.before.before, e) at c.sat16.ensures,
+      rw (to_z-of_z {w = w64} (record { sfits = v.type_inv }), rw m.is at v.ensures, turned c.before.before.before.before.before.before, e) at c.sat16-2.ensures,
     )

@@ -18,13 +18,13 @@ gain-a : (c : (lts.After-gain_of tie.the-claims reads.Pre reads.Post)) → Num (
 gain-a c =
     let a = c.args.a.amp in
     let e = to_z-of_z (sfits_abs w64 a (omega (arith, c.requires.0.amp))) in
-    record { is = to_z-of_z (record { sfits = c.gain_of-ga.type_inv }) ∙ rw e at c.gain_of-ga.ensures.0; size = gain_size a }
+    record { is = to_z-of_z {w = w64} (record { sfits = c.gain_of-ga.type_inv }) ∙ rw e at c.gain_of-ga.ensures.0; size = gain_size a }
 
 gain-b : (c : (lts.After-gain_of2 tie.the-claims reads.Pre reads.Post)) → Num (to_z w64 (of_z w64 c.gain_of-gb.result)) (gain_of c.args.b.amp) 71179699
 gain-b c =
     let b = c.args.b.amp in
     let e = to_z-of_z (sfits_abs w64 b (omega (arith, c.requires.1.amp))) in
-    record { is = to_z-of_z (record { sfits = c.gain_of-gb.type_inv }) ∙ rw e at c.gain_of-gb.ensures.0; size = gain_size b }
+    record { is = to_z-of_z {w = w64} (record { sfits = c.gain_of-gb.type_inv }) ∙ rw e at c.gain_of-gb.ensures.0; size = gain_size b }
 
 pub overflow_sub-gb : goal.overflow_sub-gb
 overflow_sub-gb c = fits w64 (less (gain-b c.before.before.before) (gain-a c.before.before.before.before.before)) tt
@@ -42,9 +42,9 @@ returns c =
     let g = gain-a c.before.before.before.before.before in
     let n = at w64 (less (gain-b c.before.before.before) g) tt in
     rw (
-      to_z-of_z (record { sfits = d.type_inv }),
-      rw (to_z-of_z (record { sfits = t.type_inv }), t.ensures.0) at d.ensures,
+      to_z-of_z {w = w64} (record { sfits = d.type_inv }),
+      rw (to_z-of_z {w = w64} (record { sfits = t.type_inv }), t.ensures.0) at d.ensures,
       g.is,
-      to_z-of_z (record { sfits = c.per_symbol-2.type_inv }),
+      to_z-of_z {w = w64} (record { sfits = c.per_symbol-2.type_inv }),
       rw n.is at c.per_symbol-2.ensures,
     )
