@@ -1,5 +1,4 @@
 -- `in_force::default` meets its contract. Assumes nothing.
-use borrow.Author.Rules.{rules}
 use mir.Syntax.{w64}
 use Rattle.laws.proofs.Size.{back}
 use Rattle.in_force.specs.InForce.{default_force}

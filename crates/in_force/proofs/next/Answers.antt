@@ -1,6 +1,5 @@
 -- `in_force::next` meets its contract. Assumes nothing.
 use mathlib.Core.Path.{sym, ◌∙◌}
-use borrow.Author.Rules.{rules}
 use lib.ListN.{length}
 use Rattle.laws.specs.Choice.{cases}
 use Rattle.in_force.specs.Answers.{next_answer, next_slice}

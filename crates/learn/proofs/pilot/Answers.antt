@@ -1,6 +1,5 @@
 -- `learn::pilot` meets its contract. Assumes nothing.
 use mathlib.Core.Path.{sym, ◌∙◌}
-use borrow.Author.Rules.{rules}
 use mir.Facts.{to_z-of_z}
 use Rattle.laws.specs.Choice.{cases}
 use Rattle.learn.specs.Answers.{pilot_answer}

@@ -1,6 +1,5 @@
 -- `learn::points` meets its contract. Assumes nothing.
 use mathlib.Core.Path.{sym, ◌∙◌}
-use borrow.Author.Rules.{rules}
 use lib.ListN.{length}
 use Rattle.laws.specs.Choice.{cases}
 use Rattle.learn.specs.Answers.{points_answer, points_slice}

@@ -2,7 +2,6 @@
 use mathlib.Core.Path.{◌≡◌, sym, ◌∙◌}
 use Prim.Native.Nat.{◌-◌, ◌*◌}
 use native.Mathlib.Omega.{arith}
-use borrow.Author.Rules.{rules}
 use borrow.Author.Tests.{ne_eqb}
 use lib.ListN.{length}
 use Rattle.demap.proofs.Blocks.{whole}
@@ -35,12 +34,22 @@ overflow_sub-bits c = (ok c.before).bits_ok.some
 pub bounds-flags-bits : goal.bounds-flags-bits
 bounds-flags-bits c = omega (arith, (ok c.before).bits_ok)
 
+pub slice_bounds-result-end-then-flags-bits : goal.slice_bounds-result-end-then-flags-bits
+slice_bounds-result-end-then-flags-bits c =
+    let o = sets_taken _ _ _ (sym c.sets_refusal.ensures ∙ c.if-sets_refusal-ne0.false) in
+    omega (arith, o.learned_long)
+
+pub slice_bounds-result-end-else-flags-bits : goal.slice_bounds-result-end-else-flags-bits
+slice_bounds-result-end-else-flags-bits c =
+    let o = sets_taken _ _ _ (sym c.sets_refusal.ensures ∙ c.if-sets_refusal-ne0.false) in
+    omega (arith, o.nominal_long)
+
 pub returns-then-flags-bits : goal.returns-then-flags-bits
 returns-then-flags-bits c =
     let n = c.labels-n.result in
-    rw (whole (2 * (n - 2)) (2 * n)) (chosen _ _ c.args.t3 c.args.bits n _ c.labels-n.ensures.0 (number c.before.before.before) (if_yes _ _ _ c.if-flags-bits.true))
+    rw (whole (2 * (n - 2)) (2 * n)) (chosen _ _ c.args.flags c.args.bits n _ c.labels-n.ensures.0 (number c.before.before.before) (if_yes _ _ _ c.if-flags-bits.true))
 
 pub returns-else-flags-bits : goal.returns-else-flags-bits
 returns-else-flags-bits c =
     let n = c.labels-n.result in
-    rw (whole (2 * (n - 2)) (2 * n)) (chosen _ _ c.args.t3 c.args.bits n _ c.labels-n.ensures.0 (number c.before.before.before) (if_no _ _ _ c.if-flags-bits.false))
+    rw (whole (2 * (n - 2)) (2 * n)) (chosen _ _ c.args.flags c.args.bits n _ c.labels-n.ensures.0 (number c.before.before.before) (if_no _ _ _ c.if-flags-bits.false))

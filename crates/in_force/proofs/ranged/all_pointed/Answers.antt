@@ -1,15 +1,14 @@
 -- `in_force::ranged::all_pointed` meets its contract: a turn is one set. Assumes nothing.
 use mathlib.Core.Bool.{false}
-use mathlib.Core.List.{◌++◌, append-nil}
+use mathlib.Core.List.{append-nil}
 use mathlib.Core.Path.{◌≡◌, refl, sym, ◌∙◌}
-use Prim.Native.Nat.{ℕ, ◌+◌, ◌-◌, ◌≤◌}
+use Prim.Native.Nat.{ℕ, ◌+◌}
 use native.Mathlib.Omega.{arith}
-use borrow.Author.Rules.{rules}
-use lib.ListN.{length, drop, replicate}
+use lib.ListN.{replicate}
 use Rattle.laws.proofs.Lists.{firsts-step}
 use Rattle.laws.specs.Ranges.{firsts}
 use Rattle.learn.specs.Learning.{set_learned}
-use Rattle.in_force.specs.InForce.{set_flags, slices_learned}
+use Rattle.in_force.specs.InForce.{set_flags}
 use Rattle.in_force.proofs.Laws.{slices_none, slices_step}
 use Rattle.in_force.proofs.ranged.all_pointed.Goals as goal
 
@@ -30,7 +29,7 @@ loop-i-preserved c =
       omega arith,
       rw L.invariant.1 (firsts-step (λ (b : ℕ). set_learned l (b + 1)) (replicate 5 false) L.i p.result p.ensures.0 (omega arith)),
       p.ensures.1 ∙ rw L.invariant.2 (slices_step l L.i c.args.learned.now),
-      p.auto.1.1.0 ∙ L.invariant.3,
+      p.auto.learned ∙ L.invariant.3,
     )
 
 pub shape_of-learned : goal.shape_of-learned

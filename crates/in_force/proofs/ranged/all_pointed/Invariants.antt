@@ -1,15 +1,11 @@
 use mathlib.Core.Bool.{false}
-use mathlib.Core.List.{◌++◌, append-nil}
-use mathlib.Core.Path.{◌≡◌, refl, sym, ◌∙◌}
+use mathlib.Core.List.{◌++◌}
+use mathlib.Core.Path.{◌≡◌}
 use Prim.Native.Nat.{ℕ, ◌+◌, ◌-◌, ◌≤◌}
-use native.Mathlib.Omega.{arith}
-use borrow.Author.Rules.{rules}
 use lib.ListN.{length, drop, replicate}
-use Rattle.laws.proofs.Lists.{firsts-step}
 use Rattle.laws.specs.Ranges.{firsts}
 use Rattle.learn.specs.Learning.{set_learned}
-use Rattle.in_force.specs.InForce.{set_flags, slices_learned}
-use Rattle.in_force.proofs.Laws.{slices_none, slices_step}
+use Rattle.in_force.specs.InForce.{slices_learned}
 use Rattle.in_force.proofs.ranged.all_pointed.Given as goal
 
 abbrev pub invariant-loop-i : goal.invariant-loop-i

@@ -1,7 +1,6 @@
 -- `in_force::ranged::renewed` meets its contract. Assumes nothing.
 use mathlib.Core.Path.{◌≡◌}
 use Prim.Native.Nat.{◌<◌, ◌^◌}
-use borrow.Author.Rules.{rules}
 use lib.Signed.{mag}
 use mir.Syntax.{w64}
 use Rattle.demap.specs.Demap.{scale_of}

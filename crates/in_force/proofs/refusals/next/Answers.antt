@@ -1,5 +1,4 @@
 -- `in_force::refusals::next` meets its contract. Assumes nothing.
-use borrow.Author.Rules.{rules}
 use Rattle.laws.specs.Choice.{cases}
 use Rattle.in_force.specs.Answers.{next_refusal}
 use Rattle.in_force.proofs.refusals.next.Goals as goal

@@ -1,10 +1,7 @@
 -- `learn::means::all_piloted` meets its contract. Assumes nothing.
 use mathlib.Core.Path.{◌≡◌, sym}
-use Prim.Native.Nat.{ℕ, ◌+◌, ◌-◌, ◌≤◌}
 use native.Mathlib.Omega.{arith}
-use borrow.Author.Rules.{rules}
-use lib.Dec.{ltb}
-use Rattle.learn.specs.Learning.{all_below, count_at, all_piloted}
+use Rattle.learn.specs.Learning.{all_piloted}
 use Rattle.learn.proofs.Laws.{all_none, all_step}
 use Rattle.learn.proofs.means.all_piloted.Goals as goal
 

@@ -1,10 +1,7 @@
-use mathlib.Core.Path.{◌≡◌, sym}
+use mathlib.Core.Path.{◌≡◌}
 use Prim.Native.Nat.{ℕ, ◌+◌, ◌-◌, ◌≤◌}
-use native.Mathlib.Omega.{arith}
-use borrow.Author.Rules.{rules}
 use lib.Dec.{ltb}
-use Rattle.learn.specs.Learning.{all_below, count_at, all_piloted}
-use Rattle.learn.proofs.Laws.{all_none, all_step}
+use Rattle.learn.specs.Learning.{all_below, count_at}
 use Rattle.learn.proofs.means.all_piloted.Given as goal
 
 abbrev pub invariant-loop-i : goal.invariant-loop-i

@@ -1,16 +1,9 @@
-use mathlib.Core.List.{◌++◌, append-nil}
-use mathlib.Core.Path.{◌≡◌, refl, ◌∙◌}
+use mathlib.Core.List.{◌++◌}
+use mathlib.Core.Path.{◌≡◌}
 use Prim.Native.Nat.{ℕ, ◌+◌, ◌-◌, ◌≤◌}
-use native.Mathlib.Nat.{le_refl}
-use native.Mathlib.Omega.{arith}
-use borrow.Author.Rules.{rules}
-use lib.IntN.{ℤ}
-use lib.ListN.{length, drop, drop_of_length-le}
-use mir.Syntax.{w16, w64}
-use Rattle.laws.proofs.Lists.{firsts-step, length-fill}
-use Rattle.laws.proofs.Size.{back}
+use lib.ListN.{length, drop}
 use Rattle.laws.specs.Ranges.{firsts}
-use Rattle.learn.specs.Learning.{sum_at, mean_at}
+use Rattle.learn.specs.Learning.{mean_at}
 use Rattle.learn.proofs.means.write.Given as goal
 
 abbrev pub invariant-loop-i : goal.invariant-loop-i

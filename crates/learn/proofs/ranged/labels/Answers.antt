@@ -3,7 +3,6 @@ use mathlib.Core.Path.{◌≡◌, refl}
 use Prim.Native.Nat.{ℕ, ◌*◌, ◌%◌, ◌^◌}
 use native.Mathlib.Nat.{one-mul, mod-eq_of_lt}
 use native.Mathlib.Omega.{arith}
-use borrow.Author.Rules.{rules}
 use Rattle.learn.specs.Sets.{Bits}
 use Rattle.learn.proofs.Laws.{labels_few}
 use Rattle.learn.proofs.ranged.labels.Goals as goal

@@ -1,7 +1,6 @@
 -- `learn::ranged::piloted` meets its contract. Assumes nothing.
 use Prim.Native.Nat.{◌+◌, ◌*◌, ◌^◌, ◌≤◌}
 use native.Mathlib.Omega.{arith}
-use borrow.Author.Rules.{rules}
 use lib.IntN.{ℤ, nat_abs, ◌+ℤ◌}
 use mir.Syntax.{w16, w64}
 use mir.Val.{SFits, to_z, of_z}
@@ -23,7 +22,7 @@ module _ (S : (lts.Start reads.Pre reads.Post)) where
 
   more-q : Num (to_z w64 (of_z w64 (sum_at S.args.l.sum (2 * S.args.a + 1))) +ℤ to_z w64 (of_z w64 (to_z w16 (of_z w16 S.args.zq))))
       (sum_at S.args.l.sum (2 * S.args.a + 1) +ℤ S.args.zq) (2 ^ 41 + 2 ^ 15)
-  more-q = more (sum_at S.args.l.sum (2 * S.args.a + 1)) S.args.zq (S.pre.0.sums (2 * S.args.a + 1) (omega arith)) S.fits.zq
+  more-q = more (sum_at S.args.l.sum (2 * S.args.a + 1)) S.args.zq (S.requires.0.sums (2 * S.args.a + 1) (omega arith)) S.ranges.zq
 
 pub overflow_cast-si : goal.overflow_cast-si
 overflow_cast-si c = fits w64 (arg c.ranges.zi) tt
@@ -41,4 +40,4 @@ pub returns : goal.returns
 unfolding piloted_at
 returns c =
     let l = c.args.l in
-    rw ((at w64 (more-i c.before.before.before.before.before) tt).is, (at w64 (more-q c) tt).is, back w64 l.noise c.struct_told-1.given.1.1.0.1)
+    rw ((at w64 (more-i c.before.before.before.before.before) tt).is, (at w64 (more-q c.before.before.before.before.before) tt).is, back w64 l.noise c.struct_told-1.given.1.1.0.1)

@@ -1,9 +1,8 @@
 -- `learn::ranged::place` meets its contract. Assumes nothing.
 use mathlib.Core.Path.{refl}
-use Prim.Native.Nat.{◌-◌, ◌%◌, ◌<◌}
+use Prim.Native.Nat.{◌%◌, ◌<◌}
 use native.Mathlib.Nat.{mod-lt}
 use native.Mathlib.Omega.{arith}
-use borrow.Author.Rules.{rules}
 use Rattle.learn.specs.Sets.{place_of}
 use Rattle.learn.proofs.Laws.{place_below}
 use Rattle.learn.proofs.ranged.place.Goals as goal

@@ -1,10 +1,6 @@
 -- `learn::ranges::counts_in_range` meets its contract. Assumes nothing.
 use mathlib.Core.Path.{◌≡◌, sym}
-use Prim.Native.Nat.{ℕ, ◌-◌, ◌≤◌}
 use native.Mathlib.Omega.{arith}
-use borrow.Author.Rules.{rules}
-use lib.Dec.{leb}
-use Rattle.learn.specs.Learning.{all_below, count_at}
 use Rattle.learn.specs.Ranges.{counts_in_range}
 use Rattle.learn.proofs.Laws.{all_none, all_step}
 use Rattle.learn.proofs.ranges.counts_in_range.Goals as goal

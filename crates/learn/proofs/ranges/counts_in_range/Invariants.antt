@@ -1,11 +1,7 @@
-use mathlib.Core.Path.{◌≡◌, sym}
+use mathlib.Core.Path.{◌≡◌}
 use Prim.Native.Nat.{ℕ, ◌-◌, ◌≤◌}
-use native.Mathlib.Omega.{arith}
-use borrow.Author.Rules.{rules}
 use lib.Dec.{leb}
 use Rattle.learn.specs.Learning.{all_below, count_at}
-use Rattle.learn.specs.Ranges.{counts_in_range}
-use Rattle.learn.proofs.Laws.{all_none, all_step}
 use Rattle.learn.proofs.ranges.counts_in_range.Given as goal
 
 abbrev pub invariant-loop-i : goal.invariant-loop-i

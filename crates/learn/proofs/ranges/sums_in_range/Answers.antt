@@ -1,11 +1,10 @@
 -- `learn::ranges::sums_in_range` meets its contract. Assumes nothing.
 use mathlib.Core.Path.{◌≡◌, sym}
-use Prim.Native.Nat.{ℕ, ◌-◌, ◌≤◌}
+use Prim.Native.Nat.{ℕ}
 use native.Mathlib.Omega.{arith}
-use borrow.Author.Rules.{rules}
 use mir.Syntax.{w64}
 use Rattle.laws.proofs.Size.{back}
-use Rattle.learn.specs.Learning.{all_below, sum_at}
+use Rattle.learn.specs.Learning.{sum_at}
 use Rattle.learn.specs.Ranges.{sum_in_range, sums_in_range}
 use Rattle.learn.proofs.Laws.{all_none, all_step}
 use Rattle.learn.proofs.ranges.sums_in_range.Goals as goal

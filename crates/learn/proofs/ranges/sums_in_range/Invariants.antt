@@ -1,12 +1,7 @@
-use mathlib.Core.Path.{◌≡◌, sym}
+use mathlib.Core.Path.{◌≡◌}
 use Prim.Native.Nat.{ℕ, ◌-◌, ◌≤◌}
-use native.Mathlib.Omega.{arith}
-use borrow.Author.Rules.{rules}
-use mir.Syntax.{w64}
-use Rattle.laws.proofs.Size.{back}
 use Rattle.learn.specs.Learning.{all_below, sum_at}
-use Rattle.learn.specs.Ranges.{sum_in_range, sums_in_range}
-use Rattle.learn.proofs.Laws.{all_none, all_step}
+use Rattle.learn.specs.Ranges.{sum_in_range}
 use Rattle.learn.proofs.ranges.sums_in_range.Given as goal
 
 abbrev pub invariant-loop-i : goal.invariant-loop-i

@@ -1,5 +1,4 @@
 -- `learn::refusals::noise` meets its contract. Assumes nothing.
-use borrow.Author.Rules.{rules}
 use mir.Facts.{to_z-of_z}
 use Rattle.laws.specs.Choice.{cases}
 use Rattle.learn.specs.Answers.{noise_refusal}

@@ -1,5 +1,4 @@
 -- `learn::refusals::pilot` meets its contract. Assumes nothing.
-use borrow.Author.Rules.{rules}
 use Rattle.laws.specs.Choice.{cases}
 use Rattle.learn.specs.Answers.{pilot_refusal}
 use Rattle.learn.proofs.Laws.{good-bits}

@@ -1,5 +1,4 @@
 -- `learn::refusals::points` meets its contract. Assumes nothing.
-use borrow.Author.Rules.{rules}
 use Rattle.laws.specs.Choice.{cases}
 use Rattle.learn.specs.Answers.{points_refusal}
 use Rattle.learn.proofs.refusals.points.Goals as goal
