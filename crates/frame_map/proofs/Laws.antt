@@ -1,9 +1,8 @@
 -- The fields behind sync and pilots, by division. Assumes nothing.
-use mathlib.Core.Bool.{true, false}
+use mathlib.Core.Bool.{true}
 use mathlib.Core.List.{List}
 use mathlib.Core.Path.{◌≡◌, refl, sym, ap, ap₂, ◌∙◌}
 use Prim.Native.Nat.{ℕ, zero, suc, ◌+◌, ◌-◌, ◌*◌, ◌/◌, ◌%◌, ◌≤◌, ◌<◌}
-use native.Mathlib.Nat.{not-suc-le-zero, div-eq_of_lt, mod-eq_of_lt}
 use native.Mathlib.Omega.{arith}
 use borrow.Author.Tests.{ltb-true, ltb-false, lt-ltb, le-ltb}
 use lib.Dec.{ltb}
@@ -14,8 +13,8 @@ use Rattle.sync_corr.proofs.Laws.{one_at}
 use Rattle.sync_corr.specs.Correlate as corr
 use Rattle.sync_corr.specs.Correlate.{ones_of}
 use Rattle.laws.specs.Choice.{if◌then◌else◌, if_yes, if_no}
-use Rattle.frame_map.specs.Map.{Kind, Field, ◌of◌, Seen, also_seen, indexed, part_in, part_of, fields, runs, start_seen, none_seen}
-use Rattle.frame_map.specs.Map.Kind.{sync, pilot, main, tmcc}
+use Rattle.frame_map.specs.Map.{◌of◌, Seen, also_seen, indexed, part_in, part_of, fields, runs, start_seen, none_seen}
+use Rattle.frame_map.specs.Map.Kind.{main, tmcc}
 use Rattle.frame_map.specs.declared.SlotPart.{SlotPart}
 use Rattle.frame_map.specs.declared.SlotPart.TheVariants.{Sync, Pilot, Main, Tmcc, Refused}
 

@@ -1,7 +1,7 @@
 -- Laws of the definitions of phase that its proofs cite: sizes of gains and steps, and what is known where nothing refuses. Assumes nothing.
 use mathlib.Core.Bool.{Bool, true, false, not, ◌&&◌, ◌||◌}
-use mathlib.Core.Path.{◌≡◌, refl, sym, ap, ◌∙◌}
-use Prim.Native.Nat.{ℕ, suc, ◌+◌, ◌-◌, ◌*◌, ◌/◌, ◌^◌, ◌≤◌, ◌<◌}
+use mathlib.Core.Path.{◌≡◌, refl, sym}
+use Prim.Native.Nat.{ℕ, suc, ◌+◌, ◌*◌, ◌^◌, ◌≤◌, ◌<◌}
 use native.Mathlib.Nat.{div-lt_iff_lt-mul, le_of_suc-le-suc}
 use native.Mathlib.Omega.{arith}
 use borrow.Author.Tests.{ltb-true, ltb-false, leb-true, leb-false, le-ltb, eqb-true}
@@ -11,10 +11,9 @@ use lib.Signed.{lt_z, le_z}
 use mir.Facts.{to_z_pos}
 use mir.Syntax.{w64}
 use mir.Val.{to_z, of_z}
-use Rattle.angles.proofs.Laws.{round_near}
 use Rattle.fx.proofs.Laws.{not_wide}
 use Rattle.fx.specs.Answers.{wide}
-use Rattle.fx.specs.Fx.{round_shift, div_round}
+use Rattle.fx.specs.Fx.{div_round}
 use Rattle.laws.proofs.Size.{Num, arg_le, sfits_abs, times}
 use Rattle.laws.proofs.Tests.{if_either, never, and_both, neither}
 use Rattle.laws.specs.Choice.{if◌then◌else◌, minus}

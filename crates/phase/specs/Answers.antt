@@ -1,5 +1,5 @@
 -- What the entries answer, and the slot store afterwards. A refusal "returns the number and the state received; lent memory is unchanged".
-use Rattle.std.specs.Prelude.{ℕ, ◌+◌, ◌^◌, Bool, true, false, ◌&&◌, ◌||◌, List, eqb, leb, ltb, ℤ, length}
+use Rattle.std.specs.Prelude.{ℕ, ◌+◌, ◌^◌, Bool, false, ◌&&◌, ◌||◌, List, eqb, leb, ltb, ℤ, length}
 use Rattle.laws.specs.Choice.{if◌then◌else◌}
 use Rattle.fx.specs.Answers.{wide}
 use Rattle.fx.specs.declared.Whole.{Whole}
