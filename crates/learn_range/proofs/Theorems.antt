@@ -13,7 +13,7 @@ use lib.IntN.{ℤ, pos, nat_abs, ◌+ℤ◌}
 use lib.ListN.{length, get_or}
 use lib.Signed.{le_z, ◌≤ℤ◌, le_z_yes}
 use Rattle.laws.proofs.Floor.{IsFloor, floor_is}
-use Rattle.laws.proofs.Linear.{up, le_ud, size_ud}
+use Rattle.laws.proofs.Linear.{le_ud, size_ud}
 use Rattle.laws.proofs.Lists.{getD-firsts}
 use Rattle.laws.proofs.Tests.{never, and_both, if_both, if_either, if_ap, if_cong}
 use Rattle.laws.specs.Choice.{if◌then◌else◌, if_yes, if_no, minus}
