@@ -60,6 +60,6 @@ returns c =
     let b : Block = record { bytes = a.bytes.now; f = a.words.f; s = a.words.s; table = a.table.now } in
     let w : Flow = new_flow a.bits a.points.now a.k (lent_of a.acc.now a.store.now a.soft.now) in
     let e : h.j ≡ a.calls = omega (arith, h.invariant.0, c.loop-j-test) in
-    let z = new_flow_lem a.bits a.points.now a.k a.acc.now _ a.store.now a.soft.now n.result p.result n.ensures.0 n.ensures.1 (rw (to_z-of_z c.ranges.k) at p.ensures) in
+    let z = new_flow_lem a.bits a.points.now a.k a.acc.now _ a.store.now a.soft.now n.result p.result n.ensures.0 n.ensures.1 (p.ensures) in
     let q = h.invariant.2 ∙ ap (λ (x : Flow). feed_many b h.j x) z ∙ ap (λ (v : ℕ). feed_many b v w) e in
     (ap received q, ap (λ (x : Flow). x.lent) q)

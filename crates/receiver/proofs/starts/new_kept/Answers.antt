@@ -7,4 +7,4 @@ use Rattle.receiver.proofs.starts.new_kept.Goals as goal
 
 pub returns : goal.returns
 unfolding new_kept new_eq started_eq
-returns c = rw (c.no_points.ensures, c.new-e.ensures, to_z-of_z c.ranges.step)
+returns c = rw (c.no_points.ensures, c.new-e.ensures)

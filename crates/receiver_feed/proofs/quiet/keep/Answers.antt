@@ -14,7 +14,7 @@ bounds-store-c-then-c-lt9296 c = rw (length-set c.args.store.now _ _) (omega (ar
 
 pub returns-then-c-lt9296 : goal.returns-then-c-lt9296
 unfolding kept_at
-returns-then-c-lt9296 c = rw (to_z-of_z c.ranges.i, to_z-of_z c.ranges.q) (sym (if_yes _ _ _ (lt-ltb _ _ c.if-c-lt9296.true)))
+returns-then-c-lt9296 c = (sym (if_yes _ _ _ (lt-ltb _ _ c.if-c-lt9296.true)))
 
 pub returns-else-c-lt9296 : goal.returns-else-c-lt9296
 unfolding kept_at

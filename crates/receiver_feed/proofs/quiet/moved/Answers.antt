@@ -13,8 +13,8 @@ quiet-requires-in-Holds c =
 
 pub returns-in-Idle : goal.returns-in-Idle
 unfolding place_in
-returns-in-Idle c = rw c.in-Idle.is (rw (to_z-of_z c.ranges.freq) at c.quiet.ensures)
+returns-in-Idle c = rw c.in-Idle.is (c.quiet.ensures)
 
 pub returns-in-Holds : goal.returns-in-Holds
 unfolding place_in
-returns-in-Holds c = rw c.in-Holds.is (rw (to_z-of_z c.ranges.freq) at c.quiet-in-Holds.ensures)
+returns-in-Holds c = rw c.in-Holds.is (c.quiet-in-Holds.ensures)

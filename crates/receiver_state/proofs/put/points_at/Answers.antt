@@ -21,7 +21,7 @@ loop-k-preserved c =
     let s = c.args in
     let ys = c.no_points-t.result in (
       omega arith,
-      rw (to_z-of_z (record { sfits = c.pair_at.type_inv }), c.loop-k.invariant.1)
+      rw (c.loop-k.invariant.1)
           (firsts-step (point_at s.bytes.now) ys c.loop-k.k c.pair_at.result c.pair_at.ensures (omega (arith, c.no_points-t.ensures))),
     )
 

@@ -15,5 +15,5 @@ listen-requires c =
 pub returns : goal.returns
 unfolding ahead_by
 returns c =
-    let w = rw (to_z-of_z c.ranges.xi, to_z-of_z c.ranges.xq) at c.window-win.ensures in
+    let w = c.window-win.ensures in
     (rw (c.listen.ensures.0, c.advanced.ensures, c.step-st.ensures.0, w), c.listen.ensures.1)
