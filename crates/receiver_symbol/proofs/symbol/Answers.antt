@@ -6,6 +6,7 @@ use borrow.Author.Rules.{rules}
 use lib.ListN.{length}
 use mathlib.Core.Path.{◌∙◌, sym}
 use mir.Facts.{to_z-of_z}
+use mir.Syntax.{w8}
 use Rattle.receiver_symbol.proofs.symbol.Goals as goal
 
 pub known-requires : goal.known-requires
@@ -14,7 +15,7 @@ known-requires c =
     soon_known a.r (length a.acc.now) (length a.store.now) (length a.soft.now) a.t4 a.t5 (length a.table.now) (sym c.soon-n.ensures ∙ c.if-n-eq0.true)
 
 pub returns-then-n-eq0 : goal.returns-then-n-eq0
-returns-then-n-eq0 c = c.known.ensures
+returns-then-n-eq0 c = rw (to_z-of_z {w = w8} c.ranges.xi, to_z-of_z {w = w8} c.ranges.xq) at c.known.ensures
 
 pub returns-else-n-eq0 : goal.returns-else-n-eq0
 returns-else-n-eq0 c =

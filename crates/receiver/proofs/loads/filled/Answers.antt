@@ -22,7 +22,7 @@ loop-k-preserved c =
     let x = get_or l k (pos 0) in
     let s : mag x < 2 ^ 15 = search in
     let t : k < length l = c.loop-k-test.true in
-    (omega (arith, t), rw (c.loop-k.invariant.1) (filled_next l k t c.requires))
+    (omega (arith, t), rw (back w16 x s, c.loop-k.invariant.1) (filled_next l k t c.requires))
 
 pub returns : goal.returns
 returns c =

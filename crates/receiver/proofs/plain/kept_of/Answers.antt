@@ -6,4 +6,4 @@ use Rattle.receiver.proofs.plain.kept_of.Goals as goal
 
 pub returns : goal.returns
 unfolding kept_of
-returns c = refl
+returns c = rw (back w32 c.args.r.front.nco.freq c.struct_told-1.given.1.0.1)

@@ -9,4 +9,4 @@ pub returns : goal.returns
 unfolding started
 returns c =
     let k = c.args.k in
-    rw (c.started-4.ensures, c.started-3.ensures, c.started-2.ensures, c.started.ensures)
+    rw (c.started-4.ensures, c.started-3.ensures, c.started-2.ensures, c.started.ensures, back w32 k.freq c.struct_told-1.given.1.0.1)

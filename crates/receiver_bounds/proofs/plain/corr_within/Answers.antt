@@ -13,4 +13,4 @@ returns c =
     let a = c.args.c in
     let h : mag a.re < 2 ^ 31 = search in
     let k : mag a.im < 2 ^ 31 = search in
-    rw (c.part_within.ensures, c.part_within-2.ensures)
+    rw (c.part_within.ensures, c.part_within-2.ensures, back w32 a.re h, back w32 a.im k)

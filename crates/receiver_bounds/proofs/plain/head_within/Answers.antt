@@ -12,4 +12,4 @@ unfolding head_within
 returns c =
     let a = c.args.h in
     let h : mag a.amp < 2 ^ 63 = search in
-    rw (c.between.ensures, c.corr_within.ensures, c.slot_in_range.ensures, c.even.ensures)
+    rw (c.between.ensures, c.corr_within.ensures, c.slot_in_range.ensures, c.even.ensures, back w64 a.amp h)

@@ -1,3 +1,6 @@
+use Rattle.laws.proofs.Size.{arg, at, fits, num}
+use mir.Syntax.{w16, w64}
+use mir.Val.{of_z}
 use Rattle.receiver_feed.specs.Quiet.{Course, Moving}
 use Rattle.receiver_feed.proofs.Calm.{some_moved, tally_sum}
 use Prim.Native.Nat.{ℕ, ◌+◌, ◌-◌, ◌*◌, ◌≤◌, ◌<◌}
@@ -6,6 +9,9 @@ use mathlib.Core.Path.{◌≡◌, refl, sym, ap, ◌∙◌}
 use Rattle.angles.specs.Angles.{turned_by}
 use native.Mathlib.Omega.{arith}
 use lib.ListN.{length}
+use mir.Facts.{to_z-of_z}
+use mir.Val.{to_z}
+use mir.Syntax.{w32}
 use Rattle.laws.specs.Choice.{if◌then◌else◌, if_yes, if_no}
 use Rattle.receiver_bounds.specs.Bounds.{all_within, tally_within}
 use Rattle.receiver_feed.specs.Quiet.{Fits, moves, moving}

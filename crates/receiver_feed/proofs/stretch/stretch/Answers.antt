@@ -35,7 +35,7 @@ returns c =
     let a = c.args in
     let q = c.moved-x in
     let w = c.window_of-win.ensures.0 in
-    let f = c.freq_of-d.ensures in
+    let f = to_z-of_z {w = w32} (record { sfits = c.freq_of-d.type_inv }) ∙ c.freq_of-d.ensures in
     let ep = c.place-p.ensures.0 in
     let x = rw (w, f) at q.ensures.0 ∙ moves_from_lem a.r a.bytes.now a.table.now a.rows.now a.acc.now a.store.now a.i _ _ q.result.taken ep refl in (
       c.passed.ensures ∙ passed_any a.r q.result.taken _ _ _ _ _ ∙ ap (passed_by a.r q.result.taken) x,

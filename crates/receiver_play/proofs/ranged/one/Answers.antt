@@ -12,5 +12,5 @@ pub returns : goal.returns
 unfolding input_at
 returns c =
     let x = c.args.x.now in
-    let e = c.symbol.ensures in
+    let e = rw (back w8 (get_or x (2 * c.args.i) (pos 0)) c.symbol-arg-1.given, back w8 (get_or x (2 * c.args.i + 1) (pos 0)) c.symbol-arg-2-1.given) at c.symbol.ensures in
     (e.0, rw (e.1, e.2, e.3))

@@ -38,5 +38,5 @@ pub returns-else-loses : goal.returns-else-loses
 unfolding after_by store_by symbol_at
 returns-else-loses c =
     let w = c.args.a.win in
-    let g = c.phased.ensures in
+    let g = rw (back w16 (get_or w 0 (pos 0)) c.phased-arg-1.given, back w16 (get_or w 1 (pos 0)) c.phased-arg-else-loses-1.given) at c.phased.ensures in
     (rw (c.left-else-loses.ensures, g.0, ← c.loses.ensures) (search cases), g.1 ∙ rw (← c.loses.ensures) (search cases))
