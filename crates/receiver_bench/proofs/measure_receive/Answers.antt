@@ -38,13 +38,13 @@ loop-j-preserved c =
       omega (arith, c.loop-j-test.true),
       g.ensures.2,
       feed_more b h.j _ (flow h.r h.taken h.refusal (lent_of h.acc h.store h.soft)) g.result _ h.invariant.2 g.ensures.0 g.ensures.1,
-      g.auto.1.1.1.1.1.0 ∙ h.invariant.3,
-      g.auto.1.1.1.1.1.1.0 ∙ h.invariant.4,
-      g.auto.1.1.1.1.1.1.1.0 ∙ h.invariant.5,
+      g.auto.acc ∙ h.invariant.3,
+      g.auto.store ∙ h.invariant.4,
+      g.auto.soft ∙ h.invariant.5,
     )
 
 pub shape_of-acc : goal.shape_of-acc
-shape_of-acc c = c.loop-j.invariant.3 ∙ c.new-a.auto.1.1.0
+shape_of-acc c = c.loop-j.invariant.3 ∙ c.new-a.auto.acc
 
 pub shape_of-store : goal.shape_of-store
 shape_of-store c = c.loop-j.invariant.4

@@ -41,13 +41,13 @@ loop-i-preserved c =
       omega (arith, c.loop-i-test.true),
       symbol_more b h.i _ (flow h.r h.i h.refusal (lent_of h.acc h.store h.soft)) _ _ g.result _ _ _ h.invariant.1
           (to_z-of_z {w = w8} (record { sfits = c.symbol-arg-1.given })) (to_z-of_z {w = w8} (record { sfits = c.symbol-arg-in-loop-i-1.given })) g.ensures.0 g.ensures.1 g.ensures.2 g.ensures.3,
-      g.auto.1.1.1.1.1.1.0 ∙ h.invariant.2,
-      g.auto.1.1.1.1.1.1.1.0 ∙ h.invariant.3,
-      g.auto.1.1.1.1.1.1.1.1.0 ∙ h.invariant.4,
+      g.auto.acc ∙ h.invariant.2,
+      g.auto.store ∙ h.invariant.3,
+      g.auto.soft ∙ h.invariant.4,
     )
 
 pub shape_of-acc : goal.shape_of-acc
-shape_of-acc c = c.loop-i.invariant.2 ∙ c.new-a.auto.1.1.0
+shape_of-acc c = c.loop-i.invariant.2 ∙ c.new-a.auto.acc
 
 pub shape_of-store : goal.shape_of-store
 shape_of-store c = c.loop-i.invariant.3

@@ -64,8 +64,8 @@ loop-k-preserved c =
       fits_more d s.i s.p s.c c.loop-k.k m (moving c.loop-k.win c.loop-k.y c.loop-k.acc c.loop-k.store c.loop-k.a) v.3 (record { win = v.5; tally = f }) v.4,
       rolled-within s.rows.now _ _ _ _ _ er v.5 z.ensures.1 z.ensures.2,
       g.ensures.2,
-      g.auto.1.1.1.1.1.1.0 ∙ v.7,
-      q.auto.0 ∙ v.8,
+      g.auto.acc ∙ v.7,
+      q.auto.store ∙ v.8,
     )
 
 pub shape_of-acc : goal.shape_of-acc
