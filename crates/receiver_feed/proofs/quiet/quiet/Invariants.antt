@@ -21,8 +21,8 @@ use Rattle.receiver_feed.proofs.quiet.quiet.Given as goal
 
 abbrev pub invariant-loop-k : goal.invariant-loop-k
 invariant-loop-k l = (l.k ≤ l.n) × (l.end ≤ l.n) × (l.end ≡ (if tally_within l.y then l.n else l.k))
-    × (moving l.win l.y l.acc l.store l.a ≡ moves (record { l.bytes = l.bytes; l.table = l.table; l.rows = l.rows; l.freq = to_z w32 l.freq }) l.i l.p l.c l.k (moving l.initial.win l.initial.y l.initial.acc l.initial.store l.phase))
-    × ((j : ℕ) → j < l.k → Fits (moves (record { l.bytes = l.bytes; l.table = l.table; l.rows = l.rows; l.freq = to_z w32 l.freq }) l.i l.p l.c j (moving l.initial.win l.initial.y l.initial.acc l.initial.store l.phase)))
+    × (moving l.win l.y l.acc l.store l.a ≡ moves (record { bytes = l.bytes; table = l.table; rows = l.rows; freq = l.freq }) l.i l.p l.c l.k (moving l.initial.win l.initial.y l.initial.acc l.initial.store l.phase))
+    × ((j : ℕ) → j < l.k → Fits (moves (record { bytes = l.bytes; table = l.table; rows = l.rows; freq = l.freq }) l.i l.p l.c j (moving l.initial.win l.initial.y l.initial.acc l.initial.store l.phase)))
     × (all_within 4096 l.win ≡ true) × (length l.win ≡ 48) × (length l.acc ≡ 9296) × (length l.store ≡ 18592)
 
 abbrev pub decreases-loop-k : goal.decreases-loop-k

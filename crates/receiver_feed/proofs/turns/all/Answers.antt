@@ -29,9 +29,9 @@ pub loop-i-preserved : goal.loop-i-preserved
 loop-i-preserved c =
     let v = c.loop-i.invariant in
     let g = c.next-t in
-    let a = g.auto.1.1.1.1.1.1.1.1.0 in
-    let b = g.auto.1.1.1.1.1.1.1.1.1.0 in
-    let d = g.auto.1.1.1.1.1.1.1.1.1.1.0 in (
+    let a = g.auto.acc in
+    let b = g.auto.store in
+    let d = g.auto.soft in (
       refl,
       g.ensures.1.most,
       c.until-end.ensures,
