@@ -10,12 +10,12 @@ use lib.Dec.{ltb}
 use lib.ListN.{length, take, drop, set, length-drop}
 use lib.Seq.{take-length}
 use Rattle.laws.proofs.Tests.{by_test}
-use Rattle.laws.specs.Choice.{if◌then◌else◌, if_yes, if_no}
+use Rattle.laws.specs.Choice.{when◌then◌else◌, if_yes, if_no}
 use Rattle.lines.specs.Decimal.{digit, decimal_in, decimal_of}
 
 -- what stands before the digits that are written, where `rest` is left of the number and i places are
 unfoldable pub front : ℕ → ℕ → List ℕ
-front i rest = if ltb 0 rest then decimal_in i rest else []
+front i rest = when ltb 0 rest then decimal_in i rest else []
 
 front_none : (i : ℕ) → front i 0 ≡ []
 unfolding front

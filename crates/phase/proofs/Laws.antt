@@ -16,7 +16,7 @@ use Rattle.fx.specs.Answers.{wide}
 use Rattle.fx.specs.Fx.{div_round}
 use Rattle.laws.proofs.Size.{Num, arg_le, sfits_abs, times}
 use Rattle.laws.proofs.Tests.{if_either, never, and_both, neither}
-use Rattle.laws.specs.Choice.{if◌then◌else◌, minus}
+use Rattle.laws.specs.Choice.{when◌then◌else◌, minus}
 use Rattle.sync_heads.specs.declared.Head.{Head}
 use Rattle.phase.specs.Answers.{past_end, place_past, push_refusal, head_refusal, correct_refusal}
 use Rattle.phase.specs.Phase.{gain_of}
@@ -54,13 +54,13 @@ no : {X : Type 0} (n : ℕ) → suc n ≡ 0 → X
 no n e = absurd (omega (arith, e))
 
 -- a choice between numbers above 0 and a further number that is 0: the test held
-yes_0 : (t : Bool) (a n : ℕ) → (if t then a else suc n) ≡ 0 → (t ≡ true) × (a ≡ 0)
-unfolding if◌then◌else◌
+yes_0 : (t : Bool) (a n : ℕ) → (when t then a else suc n) ≡ 0 → (t ≡ true) × (a ≡ 0)
+unfolding when◌then◌else◌
 yes_0 true a n e = (refl, e)
 yes_0 false a n e = no n e
 
-no_0 : (t : Bool) (n b : ℕ) → (if t then suc n else b) ≡ 0 → (t ≡ false) × (b ≡ 0)
-unfolding if◌then◌else◌
+no_0 : (t : Bool) (n b : ℕ) → (when t then suc n else b) ≡ 0 → (t ≡ false) × (b ≡ 0)
+unfolding when◌then◌else◌
 no_0 true n b e = no n e
 no_0 false n b e = (refl, e)
 

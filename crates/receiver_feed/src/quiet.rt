@@ -1,6 +1,6 @@
 // Symbols that tell nothing, in a loop. The rows come by a reference (docs/BENCHMARKS.md).
 ghost use Rattle.std.specs.Prelude.{◌≡◌, true, ℕ, ◌+◌, ◌*◌, ◌≤◌, ◌<◌, length};
-ghost use Rattle.laws.specs.Choice.{if◌then◌else◌};
+ghost use Rattle.laws.specs.Choice.{when◌then◌else◌};
 ghost use Rattle.sync_corr.specs.Rows.{SmallRows};
 ghost use Rattle.receiver_bounds.specs.Bounds.{all_within, tally_within};
 ghost use Rattle.receiver_feed.specs.Quiet.{Fits, kept_at, moves, moving, place_in};
@@ -22,7 +22,7 @@ fn keep(store: &mut [i16], c: usize, i: i16, q: i16)
 
 // n, or k if the figures are out of range.
 fn up_to(y: Tally, k: usize, n: usize) -> usize
-    ensures { result ≡ (if tally_within y then n else k) }
+    ensures { result ≡ (when tally_within y then n else k) }
 {
     if receiver_bounds::plain::tally_within(y) {
         n

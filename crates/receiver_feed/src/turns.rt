@@ -1,6 +1,6 @@
 // A feed by turns: a stretch of symbols that tell nothing, or one symbol.
 ghost use Rattle.std.specs.Prelude.{◌≡◌, true, ◌+◌, ◌-◌, ◌*◌, ◌/◌, ◌≤◌, ◌<◌, ◌^◌, length};
-ghost use Rattle.laws.specs.Choice.{if◌then◌else◌};
+ghost use Rattle.laws.specs.Choice.{when◌then◌else◌};
 ghost use Rattle.sync_corr.specs.Rows.{rows_of};
 ghost use Rattle.receiver_bounds.specs.Bounds.{tally_within};
 ghost use Rattle.receiver.specs.Ranges.{receiver_in_range};
@@ -154,7 +154,7 @@ fn next(
 
 // n, or where a turn stops the feed.
 fn until(t: Turn, n: usize) -> usize
-    ensures { result ≡ (if t.done then t.used else n) }
+    ensures { result ≡ (when t.done then t.used else n) }
 {
     let d = t.done;
     let u = t.used;

@@ -13,7 +13,7 @@ use lib.ListN.{length}
 use mir.Facts.{to_z-of_z}
 use mir.Val.{to_z}
 use mir.Syntax.{w32}
-use Rattle.laws.specs.Choice.{if◌then◌else◌, if_yes, if_no}
+use Rattle.laws.specs.Choice.{when◌then◌else◌, if_yes, if_no}
 use Rattle.receiver_bounds.specs.Bounds.{all_within, tally_within}
 use Rattle.receiver_feed.specs.Quiet.{Fits, moves, moving}
 use Rattle.receiver_feed.proofs.Calm.{end_most, first_fits, fits_more, goes_on_lem, moves_more, rolled-within}

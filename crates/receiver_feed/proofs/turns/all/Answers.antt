@@ -5,7 +5,7 @@ use mathlib.Core.Bool.{true, false}
 use mathlib.Core.Path.{◌≡◌, refl, sym, ap, ◌∙◌}
 use native.Mathlib.Omega.{arith}
 use lib.ListN.{length}
-use Rattle.laws.specs.Choice.{if◌then◌else◌, if_no}
+use Rattle.laws.specs.Choice.{when◌then◌else◌, if_no}
 use Rattle.receiver.specs.Ranges.{receiver_in_range}
 use Rattle.receiver_feed.specs.Turns.{Stands, rest_by, stand_from}
 use Rattle.receiver_feed.proofs.Stand.{first_rest, not_done, rest_end, rest_on}
