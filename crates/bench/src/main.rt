@@ -48,9 +48,9 @@ struct Stand {
     failed: bool,
 }
 
-fn write(out: &[u8], n: usize) -> bool {
+fn write(rt: &HostRuntime, out: &[u8], n: usize) -> bool {
     if n <= out.len() {
-        let w = system::write(&out[..n]);
+        let w = system::write(rt, &out[..n]);
         w.ok
     } else {
         false
@@ -58,7 +58,7 @@ fn write(out: &[u8], n: usize) -> bool {
 }
 
 // Room for 768 bytes, three lines; what stands before it is written if it must.
-fn with_room(out: &[u8], place: usize) -> Put
+fn with_room(rt: &HostRuntime, out: &[u8], place: usize) -> Put
     requires { length out.now ≡ 65536 }
     ensures { (result.place ≡ room_at place) × (result.place + 768 ≤ 65536) }
 {
@@ -70,13 +70,13 @@ fn with_room(out: &[u8], place: usize) -> Put
     } else {
         Put {
             place: 0,
-            ok: write(out, place),
+            ok: write(rt, out, place),
         }
     }
 }
 
 // The lines of a run, page by page, whose first soft value is value v. A page of a fresh buffer holds a line, so that no run uses up the turns.
-fn run(r: AlignedRun, soft: &[i8], v: usize, out: &mut [u8], place: usize) -> Ran
+fn run(rt: &HostRuntime, r: AlignedRun, soft: &[i8], v: usize, out: &mut [u8], place: usize) -> Ran
     requires { v ≤ length soft.now }
     ensures { (result.v ≤ length soft.now) × (result.ok ≡ true → leaves_page (left_on 65536 r (drop v soft.now) place out.old) (drop result.v soft.now) result.place out.new) }
 {
@@ -103,7 +103,7 @@ fn run(r: AlignedRun, soft: &[i8], v: usize, out: &mut [u8], place: usize) -> Ra
         if n <= i {
             turns = 0;
         } else {
-            ok = write(out, to);
+            ok = write(rt, out, to);
             to = 0;
             turns = if ok { turns - 1 } else { 0 };
         }
@@ -116,19 +116,19 @@ fn run(r: AlignedRun, soft: &[i8], v: usize, out: &mut [u8], place: usize) -> Ra
 }
 
 // Events in order, then soft lines.
-fn answer(es: Events, rs: Runs, soft: &[i8], out: &mut [u8], place: usize) -> Put
+fn answer(rt: &HostRuntime, es: Events, rs: Runs, soft: &[i8], out: &mut [u8], place: usize) -> Put
     requires { length out.old ≡ 65536 }
     ensures { result.ok ≡ true → leaves_buffer (answer_left 65536 es rs soft.now (room_at place) out.old) result.place out.new }
 {
-    let w = with_room(out, place);
+    let w = with_room(rt, out, place);
     if !w.ok {
         return w;
     }
     let e = bench_text::ranged::events(es, out, w.place);
     let t = rs.tail;
     let b = rs.body;
-    let x = run(t, soft, 0, out, e);
-    let y = run(b, soft, x.v, out, x.place);
+    let x = run(rt, t, soft, 0, out, e);
+    let y = run(rt, b, soft, x.v, out, x.place);
     Put {
         place: y.place,
         ok: x.ok & y.ok,
@@ -162,6 +162,7 @@ struct Went {
 }
 
 fn tell(
+    rt: &HostRuntime,
     p: Played,
     bytes: &[i8],
     f: [i8; 48],
@@ -182,7 +183,7 @@ fn tell(
     let x = a.receiver;
     let es = a.events;
     let rs = a.runs;
-    let w = answer(es, rs, soft, out, place);
+    let w = answer(rt, es, rs, soft, out, place);
     Went {
         used: used,
         played: Played {
@@ -196,6 +197,7 @@ fn tell(
 
 // All symbols of a block. Each turn uses one or more.
 fn play(
+    rt: &HostRuntime,
     p: Played,
     bytes: &[i8],
     f: [i8; 48],
@@ -212,7 +214,7 @@ fn play(
     let mut from: usize = 0;
     let mut turns = bytes.len() / 2;
     while 0 < turns {
-        let w = tell(q, &bytes[from..], f, s, table, acc, store, soft, out);
+        let w = tell(rt, q, &bytes[from..], f, s, table, acc, store, soft, out);
         q = w.played;
         let n = w.used;
         from = onward(from, n, bytes.len());
@@ -228,6 +230,7 @@ fn play(
 
 // A block of the bytes behind the points.
 fn block(
+    rt: &HostRuntime,
     t: Stand,
     bytes: &[u8],
     signed: &mut [i8],
@@ -245,7 +248,7 @@ fn block(
     let h = capture::share(t.left, bytes.len());
     let m = lesser(h.count, bytes.len());
     let n = lesser(capture::symbols(&bytes[..m], signed), signed.len());
-    let q = play(p, &signed[..n], f, s, table, acc, store, soft, out);
+    let q = play(rt, p, &signed[..n], f, s, table, acc, store, soft, out);
     Stand {
         played: q,
         left: h.left,
@@ -274,6 +277,7 @@ fn fewer(turns: u64, stop: bool) -> u64
 // The blocks after the first, up to one that is not full. A proved loop has to end, and nothing says that the input does: the turns are counted down from a number
 // that no run uses up.
 fn blocks(
+    rt: &HostRuntime,
     t: Stand,
     buf: &mut [u8],
     signed: &mut [i8],
@@ -290,10 +294,10 @@ fn blocks(
     let mut q = t;
     let mut turns = if over(t) { 0 } else { u64::MAX };
     while 0 < turns {
-        let m = system::read(buf);
+        let m = system::read(rt, buf);
         let n = m.count;
         q.failed = !m.ok;
-        q = block(q, &buf[..n], signed, f, s, table, acc, store, soft, out);
+        q = block(rt, q, &buf[..n], signed, f, s, table, acc, store, soft, out);
         turns = fewer(turns, over(q) | (n < buf.len()));
     }
     q
@@ -314,13 +318,13 @@ fn ends(t: Stand) -> u8 {
 }
 
 // The last line, and all that is not written yet.
-fn finish(refusal: u8, symbols: u64, place: usize, out: &mut [u8])
+fn finish(rt: &HostRuntime, refusal: u8, symbols: u64, place: usize, out: &mut [u8])
     requires { length out.old ≡ 65536 }
 {
-    let w = with_room(out, place);
+    let w = with_room(rt, out, place);
     if w.ok {
         let n = bench_text::ranged::last(refusal, symbols, out, w.place);
-        write(out, n);
+        write(rt, out, n);
     }
 }
 
@@ -367,6 +371,7 @@ fn start(h: Heading, ok: bool, acc: &mut [u32]) -> Stand {
 
 // The first block, whose header is accepted.
 fn begin(
+    rt: &HostRuntime,
     h: Heading,
     m: Moved,
     buf: &[u8],
@@ -384,11 +389,23 @@ fn begin(
     let s = h.s;
     let n = m.count;
     let from = lesser(h.from, n);
-    block(t, &buf[from..n], signed, f, s, table, acc, store, soft, out)
+    block(
+        rt,
+        t,
+        &buf[from..n],
+        signed,
+        f,
+        s,
+        table,
+        acc,
+        store,
+        soft,
+        out,
+    )
 }
 
 // What a capture ends with. Where a read failed nobody knows what would have followed, so that the lines so far are the last.
-fn conclude(t: Stand, declared: u32, out: &mut [u8])
+fn conclude(rt: &HostRuntime, t: Stand, declared: u32, out: &mut [u8])
     requires { length out.old ≡ 65536 }
 {
     let e = ends(t);
@@ -396,13 +413,14 @@ fn conclude(t: Stand, declared: u32, out: &mut [u8])
     let ok = t.played.ok;
     let failed = t.failed;
     if ok & failed {
-        write(out, place);
+        write(rt, out, place);
     } else if ok {
-        finish(e, (declared / 2) as u64, place, out);
+        finish(rt, e, (declared / 2) as u64, place, out);
     }
 }
 
 fn accepted(
+    rt: &HostRuntime,
     h: Heading,
     m: Moved,
     buf: &mut [u8],
@@ -415,15 +433,16 @@ fn accepted(
 )
     requires { (length out.old ≡ 65536) × (m.count ≤ length buf.old) }
 {
-    let a = begin(h, m, buf, signed, table, acc, store, soft, out);
+    let a = begin(rt, h, m, buf, signed, table, acc, store, soft, out);
     let f = h.f;
     let s = h.s;
-    let b = blocks(a, buf, signed, f, s, table, acc, store, soft, out);
-    conclude(b, h.declared, out);
+    let b = blocks(rt, a, buf, signed, f, s, table, acc, store, soft, out);
+    conclude(rt, b, h.declared, out);
 }
 
 // A header that is refused by what a failed read left of it is not told.
 fn all(
+    rt: &HostRuntime,
     buf: &mut [u8],
     signed: &mut [i8],
     table: &mut [i16],
@@ -434,26 +453,34 @@ fn all(
 )
     requires { length out.old ≡ 65536 }
 {
-    let m = system::read(buf);
+    let m = system::read(rt, buf);
     let n = m.count;
     let h = capture::header(&buf[..n], table);
     let refusal = h.refusal;
     if refusal == 0 {
-        accepted(h, m, buf, signed, table, acc, store, soft, out);
+        accepted(rt, h, m, buf, signed, table, acc, store, soft, out);
     } else if m.ok {
-        finish(refusal, 0, 0, out);
+        finish(rt, refusal, 0, 0, out);
     }
 }
 
-fn main() {
-    let mut buf = io::large_buffer();
-    let mut out = io::large_buffer();
+// A buffer of 65,536 zeros.
+fn large_buffer() -> [u8; 65536]
+    ensures { 65536 ≡ length result }
+{
+    [0u8; 65536]
+}
+
+fn main(rt: HostRuntime) {
+    let mut buf = large_buffer();
+    let mut out = large_buffer();
     let mut signed = [0i8; 65536];
     let mut table = [0i16; 1024];
     let mut acc = [0u32; 9296];
     let mut store = [0i16; 18592];
     let mut soft = [0i8; 44880];
     all(
+        &rt,
         &mut buf,
         &mut signed,
         &mut table,

@@ -3,9 +3,10 @@
 // by one line on standard error, as a program has no exit status here.
 // A proved loop has to end, and nothing says that the input does or that a descriptor gets ready: the turns are counted down from a number that no run uses up.
 ghost use Rattle.std.specs.Prelude.{◌≡◌, true, ◌≤◌, length, take};
-ghost use Rattle.io.specs.Counts.{IsPrefixLen};
 
-use libc::types::timespec;
+use std::io::{ErrorKind, Read, Write};
+use std::time::Duration;
+use std::{io, thread};
 
 // How many of a buffer's first bytes were moved, and if the system did not fail.
 #[derive(Clone, Copy)]
@@ -22,65 +23,74 @@ struct Step {
     ok: bool,
 }
 
-// Waits for about a millisecond. A signal may end the wait early, which does no harm: whoever waits asks again.
-fn pause() {
-    let asked = timespec {
-        tv_sec: 0,
-        tv_nsec: 1000000,
-    };
-    let mut left = timespec {
-        tv_sec: 0,
-        tv_nsec: 0,
-    };
-    libc::nanosleep(&asked, &mut left);
+// Waits for about a millisecond.
+fn pause(rt: &HostRuntime) {
+    thread::sleep(rt, Duration::from_millis(1));
 }
 
-// Whether the call that failed just now is to be made again. If not, what failed is told.
-fn again(what: &[u8]) -> bool {
-    let error = os::errno();
-    if error == libc::EINTR {
+// What failed, and the system's words for it, without the number that stands behind them. Where there is no memory to find it by, with the number.
+fn tell(rt: &HostRuntime, what: &str, error: io::Error) {
+    let told = match format!(in rt.alloc(); "{error}") {
+        Ok(text) => match text.split_once(" (os error ") {
+            Some((words, _)) => eprintln!(rt; "{what}: {words}"),
+            None => eprintln!(rt; "{what}: {text}"),
+        },
+        Err(_) => eprintln!(rt; "{what}: {error}"),
+    };
+    // Where standard error fails too, nothing is left to tell it to.
+    match told {
+        Ok(()) => {}
+        Err(_) => {}
+    }
+}
+
+// Whether the call that failed so is to be made again. If not, what failed is told.
+fn again(rt: &HostRuntime, what: &str, error: io::Error) -> bool {
+    let kind = error.kind();
+    if kind == ErrorKind::Interrupted {
         true
-    } else if error == libc::EAGAIN {
-        pause();
+    } else if kind == ErrorKind::WouldBlock {
+        pause(rt);
         true
     } else {
-        os::fail(what);
+        tell(rt, what, error);
         false
     }
 }
 
 // One read behind the first bytes, which stay as they are. A read of no bytes is the end of the input.
-fn read_on(buf: &mut [u8], done: usize) -> Step
+fn read_on(rt: &HostRuntime, buf: &mut [u8], done: usize) -> Step
     requires { done ≤ length buf.old }
     ensures { (result.done ≤ length buf.new) × (take done buf.new ≡ take done buf.old) }
 {
-    let got = libc::read(libc::STDIN_FILENO, &mut buf[done..]);
-    let n = done + io::count(got, &buf[done..]);
-    if got < 0 {
-        Step {
-            done: n,
-            more: again(b"bench: cannot read standard input"),
+    let mut input = rt.stdin();
+    match input.read(&mut buf[done..]) {
+        Ok(got) => {
+            let n = done + got;
+            let more = (0 < got) & (n < buf.len());
+            Step {
+                done: n,
+                more: more,
+                ok: !more,
+            }
+        }
+        Err(error) => Step {
+            done: done,
+            more: again(rt, "bench: cannot read standard input", error),
             ok: false,
-        }
-    } else {
-        let more = (0 < got) & (n < buf.len());
-        Step {
-            done: n,
-            more: more,
-            ok: !more,
-        }
+        },
     }
 }
 
 // Reads until the buffer is full, the input ends or a read fails.
-pub fn read(buf: &mut [u8]) -> Moved
-    ensures { IsPrefixLen result.count buf.new }
+pub fn read(rt: &HostRuntime, buf: &mut [u8]) -> Moved
+    ensures { (result.count ≤ length buf.new) × (result.count ≡ length (take result.count buf.new)) }
 {
     let mut done: usize = 0;
     let mut ok = false;
     let mut turns = u64::MAX;
     while 0 < turns {
-        let s = read_on(buf, done);
+        let s = read_on(rt, buf, done);
         done = s.done;
         ok = s.ok;
         turns = if s.more { turns - 1 } else { 0 };
@@ -91,52 +101,54 @@ pub fn read(buf: &mut [u8]) -> Moved
     }
 }
 
-// A write that took no byte of some: it would take none again, and errno has nothing to say of it.
-fn none_taken() -> bool {
-    io::write_all(
-        libc::STDERR_FILENO,
-        b"bench: cannot write standard output: no byte was taken\n",
-    );
-    false
+// A write that took no byte of some: it would take none again, and no error says why.
+fn none_taken(rt: &HostRuntime) -> bool {
+    match eprintln!(rt; "bench: cannot write standard output: no byte was taken") {
+        Ok(()) => false,
+        Err(_) => false,
+    }
 }
 
 // One write of what stands behind the first bytes.
-fn write_on(out: &[u8], done: usize) -> Step
+fn write_on(rt: &HostRuntime, out: &[u8], done: usize) -> Step
     requires { done ≤ length out.now }
     ensures { (result.done ≤ length out.now) × (result.ok ≡ true → result.done ≡ length out.now) }
 {
-    let put = libc::write(libc::STDOUT_FILENO, &out[done..]);
-    let n = done + io::count(put, &out[done..]);
-    if put < 0 {
-        Step {
-            done: n,
-            more: again(b"bench: cannot write standard output"),
+    let mut output = rt.stdout();
+    match output.write(&out[done..]) {
+        Ok(put) => {
+            let n = done + put;
+            if put == 0 {
+                Step {
+                    done: n,
+                    more: none_taken(rt),
+                    ok: false,
+                }
+            } else {
+                Step {
+                    done: n,
+                    more: n < out.len(),
+                    ok: n == out.len(),
+                }
+            }
+        }
+        Err(error) => Step {
+            done: done,
+            more: again(rt, "bench: cannot write standard output", error),
             ok: false,
-        }
-    } else if put == 0 {
-        Step {
-            done: n,
-            more: none_taken(),
-            ok: false,
-        }
-    } else {
-        Step {
-            done: n,
-            more: n < out.len(),
-            ok: n == out.len(),
-        }
+        },
     }
 }
 
 // Writes all, or what goes before the first write that fails. Where there is nothing to write it makes no call.
-pub fn write(out: &[u8]) -> Moved
+pub fn write(rt: &HostRuntime, out: &[u8]) -> Moved
     ensures { result.ok ≡ true → result.count ≡ length out.now }
 {
     let mut done: usize = 0;
     let mut ok = out.len() == 0;
     let mut turns = if ok { 0 } else { u64::MAX };
     while 0 < turns {
-        let s = write_on(out, done);
+        let s = write_on(rt, out, done);
         done = s.done;
         ok = s.ok;
         turns = if s.more { turns - 1 } else { 0 };

@@ -4,7 +4,7 @@ use native.Mathlib.Nat.{min-eq_left, min-eq_right, min-le_left}
 use borrow.Author.Tests.{lt-leb}
 use lib.Seq.{drop-length}
 use Rattle.laws.proofs.Tests.{by_test, and_both, never}
-use Rattle.laws.specs.Choice.{if◌then◌else◌, if_yes, if_no}
+use Rattle.laws.specs.Choice.{when◌then◌else◌, if_yes, if_no}
 use Rattle.frame_map.specs.Map.{part_of}
 use Rattle.receiver_slot.specs.declared.AlignedRun.{AlignedRun}
 use Rattle.lines.specs.Lines.{soft_line}

@@ -1,7 +1,7 @@
 -- What an answer prints: document 01, "Capture": "Events come in order, then soft lines"; "`soft AT J` (position and slot index of a main symbol) and
 -- the values; last `end SYMBOLS` or `refused NUMBER`".
 use Rattle.std.specs.Prelude.{ℕ, zero, suc, ◌+◌, ◌*◌, ◌%◌, ◌^◌, Bool, true, false, ◌&&◌, List, [], ◌∷◌, ◌++◌, take, drop, ℤ, ◌==◌, nat_le}
-use Rattle.laws.specs.Choice.{if◌then◌else◌}
+use Rattle.laws.specs.Choice.{when◌then◌else◌}
 use Rattle.sync_step.specs.declared.Events.{Events}
 use Rattle.frame_map.specs.declared.SlotPart.{SlotPart}
 use Rattle.frame_map.specs.declared.SlotPart.TheVariants.{Sync, Pilot, Main, Tmcc, Refused}
@@ -32,10 +32,10 @@ prints_of j bits = (is_main j && nat_le 1 bits) && nat_le bits 5
 -- symbol i of a run, where vs are the soft values from its own on: its line, and the values of those behind it
 unfoldable pub symbol_text : AlignedRun → ℕ → List ℤ → List ℕ
 symbol_text r i vs =
-    let j = r.j + i in if prints_of j r.bits then soft_line ((r.at + i) % 2 ^ 64) j (take r.bits vs) else []
+    let j = r.j + i in when prints_of j r.bits then soft_line ((r.at + i) % 2 ^ 64) j (take r.bits vs) else []
 
 unfoldable pub symbol_rest : AlignedRun → ℕ → List ℤ → List ℤ
-symbol_rest r i vs = if prints_of (r.j + i) r.bits then drop r.bits vs else vs
+symbol_rest r i vs = when prints_of (r.j + i) r.bits then drop r.bits vs else vs
 
 -- n symbols from the i-th on
 unfoldable pub run_text : AlignedRun → ℕ → ℕ → List ℤ → List ℕ
@@ -55,4 +55,4 @@ lines_of es rs soft =
 
 -- "last `end SYMBOLS` or `refused NUMBER`"
 unfoldable pub last_text : ℕ → ℕ → List ℕ
-last_text refusal symbols = if refusal == 0 then end_line symbols else refused_line refusal
+last_text refusal symbols = when refusal == 0 then end_line symbols else refused_line refusal

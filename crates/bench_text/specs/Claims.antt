@@ -1,6 +1,6 @@
 -- Pages one after another give the lines of a run, and the lines of an answer.
 use Rattle.std.specs.Prelude.{◌≡◌, ℕ, zero, suc, ◌+◌, ◌-◌, ◌<◌, ◌≤◌, true, leb, List, [], ◌++◌, length, take, ℤ, nat_le}
-use Rattle.laws.specs.Choice.{if◌then◌else◌}
+use Rattle.laws.specs.Choice.{when◌then◌else◌}
 use Rattle.sync_step.specs.declared.Events.{Events}
 use Rattle.receiver_slot.specs.declared.AlignedRun.{AlignedRun}
 use Rattle.receiver_slot.specs.declared.Runs.{Runs}
@@ -11,7 +11,7 @@ use Rattle.bench_text.specs.Pages.{Paged, line_of, page_of}
 -- how many of n symbols a page takes
 unfoldable pub taken_on : AlignedRun → ℕ → Paged → ℕ
 taken_on r zero p = 0
-taken_on r (suc n) p = let on = suc (taken_on r n (line_of r p)) in if nat_le (p.place + 256) (length p.out) then on else 0
+taken_on r (suc n) p = let on = suc (taken_on r n (line_of r p)) in when nat_le (p.place + 256) (length p.out) then on else 0
 
 -- it holds their lines, one after the other, and all else of the buffer is as it was; what is left begins behind them
 pub record PageHolds (r : AlignedRun) (n : ℕ) (p : Paged) : Type 0 where
@@ -49,7 +49,7 @@ pages_from zero r s = s
 pages_from (suc k) r s =
     let p = page_of r (r.count - s.page.next) s.page in
     let on = pages_from k r (turned s.sent p) in
-    if nat_le r.count p.next then record { sent = s.sent; page = p } else on
+    when nat_le r.count p.next then record { sent = s.sent; page = p } else on
 
 -- an answer, from a page's place on: the events, the run before, the run of this slot
 unfoldable pub run_on : ℕ → AlignedRun → List ℤ → List ℕ → ℕ → List ℕ → Sent
@@ -77,7 +77,7 @@ leaves_buffer p place out = (place ≡ p.place) × (out ≡ p.out)
 
 -- where an answer begins in a buffer of 65,536: at the front, if there is no room for three lines
 unfoldable pub room_at : ℕ → ℕ
-room_at place = if nat_le place 64768 then place else 0
+room_at place = when nat_le place 64768 then place else 0
 
 -- with room for three lines at the place, and a page more than either run has symbols, all that is told is what was, and the answer's lines behind it
 abbrev pub AnswerClaim : Type 0

@@ -1,6 +1,6 @@
 -- A run's lines in a buffer that may be too small for all of them: page by page.
 use Rattle.std.specs.Prelude.{ℕ, zero, suc, ◌+◌, Bool, ◌&&◌, List, length, drop, ℤ, nat_le, nat_lt}
-use Rattle.laws.specs.Choice.{if◌then◌else◌}
+use Rattle.laws.specs.Choice.{when◌then◌else◌}
 use Rattle.receiver_slot.specs.declared.AlignedRun.{AlignedRun}
 use Rattle.lines.specs.Place.{written}
 use Rattle.bench_text.specs.declared.Page.{Page}
@@ -29,4 +29,4 @@ more_of n i room place = nat_lt i n && nat_le (place + 256) room
 -- n symbols, as far as there is room
 unfoldable pub page_of : AlignedRun → ℕ → Paged → Paged
 page_of r zero p = p
-page_of r (suc n) p = let on = page_of r n (line_of r p) in if nat_le (p.place + 256) (length p.out) then on else p
+page_of r (suc n) p = let on = page_of r n (line_of r p) in when nat_le (p.place + 256) (length p.out) then on else p

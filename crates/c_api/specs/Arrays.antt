@@ -1,6 +1,6 @@
 -- How the answers of the entries on whole arrays cross to C. Refusal 0 is an accepted call.
 use Rattle.std.specs.Prelude.{ℕ, zero, suc, eqb}
-use Rattle.laws.specs.Choice.{if◌then◌else◌}
+use Rattle.laws.specs.Choice.{when◌then◌else◌}
 use Rattle.frame_map.specs.declared.Referred.{Referred}
 use Rattle.frame_map.specs.declared.Referred.TheVariants.{Given, Refused as NotReferred}
 use Rattle.solve_step.specs.Back.{solution_of}
@@ -20,7 +20,7 @@ correlated (Refused n) = none2 n
 
 -- 0 is the S word, 1 the F word, any other number the F word negated
 unfoldable pub word_numbered : ℕ → Word
-word_numbered n = if eqb n 0 then Ssync else if eqb n 1 then Fsync else NotFsync
+word_numbered n = when eqb n 0 then Ssync else when eqb n 1 then Fsync else NotFsync
 
 -- the symbol
 unfoldable pub referred : Referred → Numbers

@@ -1,4 +1,4 @@
-// The entries on whole arrays, as C functions. An array crosses within a struct by value, so none of another length can be given.
+// The entries on whole arrays, as C is given them. An array crosses within a struct by value, so none of another length can be given.
 ghost use Rattle.std.specs.Prelude.{◌≡◌};
 ghost use Rattle.sync_corr.specs.Correlate.{correlate_answer};
 ghost use Rattle.frame_map.specs.Reference.{reference_answer};
@@ -66,8 +66,7 @@ fn of_correlated(a: Correlated) -> Numbers
 }
 
 // 24 symbols with a word.
-#[unsafe(no_mangle)]
-pub extern "C" fn sv_correlate(window: Window, word: OneWord) -> Numbers
+pub fn sv_correlate(window: Window, word: OneWord) -> Numbers
     ensures { result ≡ correlated (correlate_answer window.x word.w) }
 {
     let x = window.x;
@@ -104,8 +103,7 @@ fn of_referred(a: Referred) -> Numbers
 }
 
 // What sync symbol k is trained against.
-#[unsafe(no_mangle)]
-pub extern "C" fn sv_reference(word: u8, k: usize, words: Words) -> Numbers
+pub fn sv_reference(word: u8, k: usize, words: Words) -> Numbers
     ensures { result ≡ referred (reference_answer (word_numbered word) k words.f words.s) }
 {
     let f = words.f;
@@ -115,8 +113,7 @@ pub extern "C" fn sv_reference(word: u8, k: usize, words: Words) -> Numbers
 }
 
 // The equations solved in f64.
-#[unsafe(no_mangle)]
-pub extern "C" fn sv_solve(e: Equations) -> Unknowns
+pub fn sv_solve(e: Equations) -> Unknowns
     ensures { result ≡ unknowns e }
 {
     let a = e.a;

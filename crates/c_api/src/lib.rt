@@ -1,5 +1,5 @@
-// The C boundary: the entries of fx and some of the stages' as C functions, with no `requires`, since C could not be held to one. An answer is
-// a struct by value (docs/DECISIONS.md, F.3). Here is fx; `stages` has the stages' on numbers and slices, `arrays` those on whole arrays.
+// The C boundary: the entries of fx and some of the stages' in the form in which C is given them, with no `requires`, since C could not be held to one. An answer is
+// a struct by value (docs/DECISIONS.md, F.3). Crate c_api_c exports each under its name. Here is fx; `stages` has the stages' on numbers and slices, `arrays` those on whole arrays.
 #![tactic(auto)]
 
 pub mod arrays;
@@ -28,7 +28,7 @@ pub struct Numbers {
     pub refusal: u8,
 }
 
-// One function for each enum of fx turns an answer into its struct; the C functions below only pass their answers to it.
+// One function for each enum of fx turns an answer into its struct; the functions below only pass their answers to it.
 fn of_whole(a: Whole) -> Number
     ensures { result ≡ number a }
 {
@@ -140,79 +140,68 @@ fn of_phasor(a: Phasor) -> Numbers
     }
 }
 
-#[unsafe(no_mangle)]
-pub extern "C" fn sv_round_shift(v: i64, s: u32) -> Number
+pub fn sv_round_shift(v: i64, s: u32) -> Number
     ensures { result ≡ number (round_shift_answer v s) }
 {
     of_whole(fx::round_shift(v, s))
 }
 
-#[unsafe(no_mangle)]
-pub extern "C" fn sv_div_round(a: i64, b: i64) -> Number
+pub fn sv_div_round(a: i64, b: i64) -> Number
     ensures { result ≡ number (div_round_answer a b) }
 {
     of_whole(fx::div_round(a, b))
 }
 
-#[unsafe(no_mangle)]
-pub extern "C" fn sv_sat16(v: i64) -> Number
+pub fn sv_sat16(v: i64) -> Number
     ensures { result ≡ number16 (sat16_answer v) }
 {
     of_whole16(fx::sat16(v))
 }
 
-#[unsafe(no_mangle)]
-pub extern "C" fn sv_sat127(v: i64) -> Number
+pub fn sv_sat127(v: i64) -> Number
     ensures { result ≡ number8 (sat127_answer v) }
 {
     of_whole8(fx::sat127(v))
 }
 
-#[unsafe(no_mangle)]
-pub extern "C" fn sv_sat32(v: i64) -> Number
+pub fn sv_sat32(v: i64) -> Number
     ensures { result ≡ number32 (sat32_answer v) }
 {
     of_whole32(fx::sat32(v))
 }
 
-#[unsafe(no_mangle)]
-pub extern "C" fn sv_mag_approx(re: i64, im: i64) -> Number
+pub fn sv_mag_approx(re: i64, im: i64) -> Number
     ensures { result ≡ number (mag_approx_answer re im) }
 {
     of_whole(fx::mag_approx(re, im))
 }
 
-#[unsafe(no_mangle)]
-pub extern "C" fn sv_cordic(re: i64, im: i64) -> Numbers
+pub fn sv_cordic(re: i64, im: i64) -> Numbers
     ensures { result ≡ polar_numbers (cordic_answer re im) }
 {
     of_turned(fx::cordic(re, im))
 }
 
-#[unsafe(no_mangle)]
-pub extern "C" fn sv_cordic_scale(re: i64, im: i64) -> Numbers
+pub fn sv_cordic_scale(re: i64, im: i64) -> Numbers
     ensures { result ≡ part_numbers (cordic_scale_answer re im) }
 {
     of_scaled(fx::cordic_scale(re, im))
 }
 
 // It refuses no angle, so it answers the plain number.
-#[unsafe(no_mangle)]
-pub extern "C" fn sv_signed_angle(a: u32) -> i64
+pub fn sv_signed_angle(a: u32) -> i64
     ensures { result ≡ signed_angle a }
 {
     fx::signed_angle(a)
 }
 
-#[unsafe(no_mangle)]
-pub extern "C" fn sv_cos_sin_trunc(table: &[i16], a: u32) -> Numbers
+pub fn sv_cos_sin_trunc(table: &[i16], a: u32) -> Numbers
     ensures { result ≡ phasor_numbers (cos_sin_trunc_answer table.now a) }
 {
     of_phasor(fx::cos_sin_trunc(table, a))
 }
 
-#[unsafe(no_mangle)]
-pub extern "C" fn sv_cos_sin_round(table: &[i16], a: u32) -> Numbers
+pub fn sv_cos_sin_round(table: &[i16], a: u32) -> Numbers
     ensures { result ≡ phasor_numbers (cos_sin_round_answer table.now a) }
 {
     of_phasor(fx::cos_sin_round(table, a))

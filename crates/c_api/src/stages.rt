@@ -1,4 +1,4 @@
-// The stages' functions on numbers and slices, as C functions.
+// The stages' functions on numbers and slices, as C is given them.
 ghost use Rattle.std.specs.Prelude.{◌≡◌, pos};
 ghost use Rattle.carrier.specs.Carrier.{started_nco};
 ghost use Rattle.carrier.specs.Answers.{rotate_answer};
@@ -24,8 +24,7 @@ pub struct Rotation {
 }
 
 // One symbol rotated by a carrier that has this phase and step.
-#[unsafe(no_mangle)]
-pub extern "C" fn sv_rotate(phase: u32, freq: i32, xi: i8, xq: i8, table: &[i16]) -> Rotation
+pub fn sv_rotate(phase: u32, freq: i32, xi: i8, xq: i8, table: &[i16]) -> Rotation
     ensures { result ≡ rotation (rotate_answer (started_nco phase freq) xi xq table.now) }
 {
     let n = Nco {
@@ -43,15 +42,13 @@ pub extern "C" fn sv_rotate(phase: u32, freq: i32, xi: i8, xq: i8, table: &[i16]
     }
 }
 
-#[unsafe(no_mangle)]
-pub extern "C" fn sv_gain_of(amp: i64) -> Number
+pub fn sv_gain_of(amp: i64) -> Number
     ensures { result ≡ number (gain_answer amp) }
 {
     crate::of_whole(phase::gain_of(amp))
 }
 
-#[unsafe(no_mangle)]
-pub extern "C" fn sv_scale_of(n0: i64) -> Number
+pub fn sv_scale_of(n0: i64) -> Number
     ensures { result ≡ number (scale_answer n0) }
 {
     crate::of_whole(demap::scale_of(n0))
@@ -74,15 +71,7 @@ fn of_demapped(a: Demapped) -> Number
 }
 
 // The soft bits of a symbol into a buffer's start.
-#[unsafe(no_mangle)]
-pub extern "C" fn sv_demap(
-    yi: i16,
-    yq: i16,
-    points: &[i16],
-    bits: usize,
-    k: i64,
-    out: &mut [i8],
-) -> Number
+pub fn sv_demap(yi: i16, yq: i16, points: &[i16], bits: usize, k: i64, out: &mut [i8]) -> Number
     ensures { (result ≡ demapped (demap_answer yi yq points.now bits k out.old)) × (out.new ≡ demap_buffer yi yq points.now bits k out.old) }
 {
     of_demapped(demap::demap(yi, yq, points, bits, k, out))
@@ -116,8 +105,7 @@ fn numbered(kind: i64, k: u16) -> Numbers
 }
 
 // What stands at place j of a slot.
-#[unsafe(no_mangle)]
-pub extern "C" fn sv_part(j: usize) -> Numbers
+pub fn sv_part(j: usize) -> Numbers
     ensures { result ≡ placed (part_of j) }
 {
     of_part(frame_map::part(j))

@@ -13,7 +13,7 @@ use lib.Seq.{take-suc, drop_at}
 use lib.Signed.{mag}
 use Rattle.laws.proofs.Linear.{dif_ud, eq_ud}
 use Rattle.laws.proofs.Tests.{by_test, and_both}
-use Rattle.laws.specs.Choice.{if◌then◌else◌, if_yes, if_no}
+use Rattle.laws.specs.Choice.{when◌then◌else◌, if_yes, if_no}
 use Rattle.laws.specs.Ranges.{firsts}
 use Rattle.wire.proofs.Laws.{signed_pos, signed_neg}
 use Rattle.wire.specs.Wire.{signed}
@@ -77,7 +77,7 @@ listable : (l n : ℕ) → 13 ≤ n → n ≤ 133 → n % 2 ≡ 1 → eqb l n �
 listable l n a b o t = rw (eqb-true l n t) (record { least = a; most = b; odd = o })
 
 points_listable : (l : ℕ) → length_fits 2 l ≡ true → Listable l
-unfolding length_fits if◌then◌else◌
+unfolding length_fits when◌then◌else◌
 points_listable l h =
     either (((eqb l 13 || eqb l 21) || eqb l 37) || eqb l 69) (eqb l 133) h
     (λ h. either ((eqb l 13 || eqb l 21) || eqb l 37) (eqb l 69) h
@@ -96,7 +96,7 @@ pub record Fitting (s : List ℕ) : Type 0 where
   pub symbols : length_of s 3 % 2 ≡ 0
 
 even : (l : ℕ) → length_fits 3 l ≡ true → l % 2 ≡ 0
-unfolding length_fits if◌then◌else◌
+unfolding length_fits when◌then◌else◌
 even l h = eqb-true (l % 2) 0 h
 
 entry_length : (s : List ℕ) (n : ℕ) → entry_fits s n ≡ true → length_fits n (length_of s n) ≡ true
@@ -142,13 +142,13 @@ fits bits p h =
     record { some = leb-true 1 bits a.0; most = m; is = eqb-true p (5 + 4 * 2 ^ bits) b.1; few = pow_mono {i = bits} {j = 5} m }
 
 -- ---- a header that is not refused
-not_then : (t : Bool) (n m : ℕ) → 0 < n → (if t then n else m) ≡ 0 → (t ≡ false) × (m ≡ 0)
-unfolding if◌then◌else◌
+not_then : (t : Bool) (n m : ℕ) → 0 < n → (when t then n else m) ≡ 0 → (t ≡ false) × (m ≡ 0)
+unfolding when◌then◌else◌
 not_then true n m h e = absurd (omega arith)
 not_then false n m h e = (refl, e)
 
-not_else : (t : Bool) (n m : ℕ) → 0 < m → (if t then n else m) ≡ 0 → (t ≡ true) × (n ≡ 0)
-unfolding if◌then◌else◌
+not_else : (t : Bool) (n m : ℕ) → 0 < m → (when t then n else m) ≡ 0 → (t ≡ true) × (n ≡ 0)
+unfolding when◌then◌else◌
 not_else true n m h e = (refl, e)
 not_else false n m h e = absurd (omega arith)
 

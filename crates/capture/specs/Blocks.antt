@@ -1,6 +1,6 @@
 -- An input read in blocks, as a program does that holds one block at a time. Nothing is looped or kept by a declared length.
 use Rattle.std.specs.Prelude.{ℕ, ◌-◌, ◌≤◌, ◌%◌, min, List, [], ◌∷◌, ◌++◌, ◌≡◌, eqb, ltb, ℤ, length, take, drop}
-use Rattle.laws.specs.Choice.{if◌then◌else◌}
+use Rattle.laws.specs.Choice.{when◌then◌else◌}
 use Rattle.capture.specs.declared.Shared.{Shared}
 use Rattle.capture.specs.Bytes.{signed_bytes}
 use Rattle.capture.specs.Bodies.{table_of, header_of}
@@ -17,21 +17,21 @@ played_of left [] = []
 played_of left (b ∷ bs) =
     let p = shared_of left (length b) in
     let on = played_of p.left bs in
-    signed_bytes (take p.count b) ++ (if p.over then [] else on)
+    signed_bytes (take p.count b) ++ (when p.over then [] else on)
 
 unfoldable pub ended_of : ℕ → List (List ℕ) → ℕ
-ended_of left [] = if eqb left 0 then 0 else 12
+ended_of left [] = when eqb left 0 then 0 else 12
 ended_of left (b ∷ bs) =
     let p = shared_of left (length b) in
     let on = ended_of p.left bs in
-    if p.over then 12 else on
+    when p.over then 12 else on
 
 -- what is made of a first block and those after it: the first gives all but the symbols
 unfoldable pub blockwise : List ℕ → List (List ℕ) → Capture
 blockwise b bs =
     let h = header_of b in
     let parts = drop h.from b ∷ bs in
-    if eqb h.refusal 0
+    when eqb h.refusal 0
     then loaded_capture h (table_of b) (played_of h.declared parts) (ended_of h.declared parts)
     else refused_capture h.refusal
 

@@ -1,7 +1,7 @@
 -- Bodies up to the symbols: document 01, "Contents are checked first; then, body by body, an early end (12) before the body's own fault".
 -- The words stand at byte 33, the table at 129, the points at 2,177; p is the declared length of the points, which the symbols follow.
 use Rattle.std.specs.Prelude.{ℕ, ◌+◌, ◌-◌, ◌*◌, ◌^◌, Bool, ◌&&◌, List, ◌++◌, eqb, leb, ltb, ℤ, pos, get_or, length, replicate}
-use Rattle.laws.specs.Choice.{if◌then◌else◌}
+use Rattle.laws.specs.Choice.{when◌then◌else◌}
 use Rattle.laws.specs.Ranges.{firsts}
 use Rattle.sync_corr.specs.Correlate.{ones_of}
 use Rattle.capture.specs.declared.Heading.{Heading}
@@ -46,18 +46,18 @@ points_fit bits p = leb 1 bits && (leb bits 5 && eqb p (5 + 4 * 2 ^ bits))
 -- the first fault of table and points. A table has none of its own
 unfoldable pub points_refusal : List ℕ → ℕ → ℕ
 points_refusal s p =
-    if ltb (length s) 2177 then 12
-    else if ltb (length s) (2177 + p) then 12
-    else if points_fit (bits_of s) p
-    then if ltb (2 ^ 24) (scale_of s p) then 5 else 0
+    when ltb (length s) 2177 then 12
+    else when ltb (length s) (2177 + p) then 12
+    else when points_fit (bits_of s) p
+    then when ltb (2 ^ 24) (scale_of s p) then 5 else 0
     else 4
 
 -- the first fault of words, table and points
 unfoldable pub bodies_refusal : List ℕ → ℕ → ℕ
-bodies_refusal s p = if ltb (length s) 129 then 12 else if words_fit s then points_refusal s p else 2
+bodies_refusal s p = when ltb (length s) 129 then 12 else when words_fit s then points_refusal s p else 2
 
 unfoldable pub header_refusal : List ℕ → ℕ
-header_refusal s = if contents_fit s then bodies_refusal s (length_of s 2) else 11
+header_refusal s = when contents_fit s then bodies_refusal s (length_of s 2) else 11
 
 -- 64 places, zeros behind the points
 unfoldable pub padded : List ℤ → List ℤ
@@ -91,15 +91,15 @@ refused_heading n =
     }
 
 unfoldable pub header_of : List ℕ → Heading
-header_of s = if eqb (header_refusal s) 0 then accepted_heading s else refused_heading (header_refusal s)
+header_of s = when eqb (header_refusal s) 0 then accepted_heading s else refused_heading (header_refusal s)
 
 -- with a lent table of `room` entries: 3, "not 1,024 i16", stands above the capture's own refusals
 unfoldable pub answer_refusal : ℕ → List ℕ → ℕ
-answer_refusal room s = if eqb room 1024 then header_refusal s else 3
+answer_refusal room s = when eqb room 1024 then header_refusal s else 3
 
 unfoldable pub header_answer : ℕ → List ℕ → Heading
-header_answer room s = if eqb (answer_refusal room s) 0 then accepted_heading s else refused_heading (answer_refusal room s)
+header_answer room s = when eqb (answer_refusal room s) 0 then accepted_heading s else refused_heading (answer_refusal room s)
 
 -- the lent table afterwards
 unfoldable pub header_table : List ℤ → List ℕ → List ℤ
-header_table t s = if eqb (answer_refusal (length t) s) 0 then table_of s else t
+header_table t s = when eqb (answer_refusal (length t) s) 0 then table_of s else t

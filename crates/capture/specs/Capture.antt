@@ -1,7 +1,7 @@
 -- A whole input: document 01, "In kind 4 each whole symbol acts before an early end or a following byte is met", and the row
 -- "capture bodies | 12 | a body ends early, or bytes follow the last".
 use Rattle.std.specs.Prelude.{ℕ, ◌*◌, ◌/◌, ◌^◌, min, List, [], eqb, ℤ, length, take, drop}
-use Rattle.laws.specs.Choice.{if◌then◌else◌}
+use Rattle.laws.specs.Choice.{when◌then◌else◌}
 use Rattle.capture.specs.declared.Heading.{Heading}
 use Rattle.capture.specs.Bytes.{signed_bytes}
 use Rattle.capture.specs.Bodies.{table_of, header_of}
@@ -31,7 +31,7 @@ unfoldable pub acting_of : ℕ → List ℕ → List ℤ
 acting_of declared rest = signed_bytes (take (whole (min declared (length rest))) rest)
 
 unfoldable pub ends_of : ℕ → List ℕ → ℕ
-ends_of declared rest = if eqb (length rest) declared then 0 else 12
+ends_of declared rest = when eqb (length rest) declared then 0 else 12
 
 -- the points of a heading, without the zeros behind
 unfoldable pub heading_points : Heading → List ℤ
@@ -60,6 +60,6 @@ unfoldable pub capture_of : List ℕ → Capture
 capture_of s =
     let h = header_of s in
     let rest = drop h.from s in
-    if eqb h.refusal 0
+    when eqb h.refusal 0
     then loaded_capture h (table_of s) (acting_of h.declared rest) (ends_of h.declared rest)
     else refused_capture h.refusal

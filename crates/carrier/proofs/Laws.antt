@@ -1,17 +1,16 @@
 -- What the ranges give, what is accepted, and how large a rotated symbol is. Assumes nothing.
-use mathlib.Core.Path.{◌≡◌, refl, sym, ◌∙◌}
-use mathlib.Core.Bool.{Bool, true, false, ◌&&◌, ◌||◌}
-use Prim.Native.Nat.{ℕ, ◌+◌, ◌≤◌, ◌^◌, suc}
+use mathlib.Core.Path.{◌≡◌}
+use mathlib.Core.Bool.{true, ◌&&◌}
+use Prim.Native.Nat.{ℕ, ◌+◌, ◌≤◌, suc}
 use native.Mathlib.Omega.{arith}
-use borrow.Author.Tests.{leb-true, eqb-true, lt-ltb, le-ltb, ltb-true, ltb-false}
-use lib.Dec.{eqb, leb, ltb, lit<}
+use borrow.Author.Tests.{leb-true, eqb-true}
+use lib.Dec.{eqb, leb, lit<}
 use lib.IntN.{ℤ, pos, negsuc, nat_abs}
-use lib.Signed.{lt_z, le_z}
+use lib.Signed.{le_z}
 use Rattle.laws.proofs.Tests.{and_both, if_either}
 use Rattle.laws.specs.Choice.{minus}
 use Rattle.angles.proofs.Laws.{turned_size}
 use Rattle.angles.specs.Angles.{turned_back}
-use Rattle.fx.specs.Answers.{wide}
 use Rattle.fx.specs.declared.CosSin.{CosSin}
 use Rattle.fx.specs.declared.Parts.{Parts}
 use Rattle.sync_heads.specs.declared.Head.{Head}

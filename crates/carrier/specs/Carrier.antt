@@ -1,6 +1,6 @@
 -- The carrier: document 01, "Slot sync and carrier", second paragraph, and `Nco` of chain/sync.rs.
 use Rattle.std.specs.Prelude.{ℕ, ◌+◌, true, false, List, ltb, ℤ, pos, ◌+ℤ◌, ◌*ℤ◌}
-use Rattle.laws.specs.Choice.{if◌then◌else◌, minus}
+use Rattle.laws.specs.Choice.{when◌then◌else◌, minus}
 use Rattle.fx.specs.Fx.{round_shift, clamp, round_index, cos_sin_at}
 use Rattle.angles.specs.Angles.{turned_by, turn_from, turned_back}
 use Rattle.angles.specs.declared.Symbol.{Symbol}
@@ -36,7 +36,7 @@ unfoldable pub ssync_heard : Nco → Steps → ℕ → Heard
 ssync_heard n s theta =
     let sum = s.sum +ℤ turn_from s.last_ss theta in
     let steps = s.steps + 1 in
-    if ltb steps 60
+    when ltb steps 60
     then record { refusal = 0; nco = record { phase = n.phase; freq = n.freq; trail = Since (record { last_ss = theta; sum = sum; steps = steps }) }; set = false }
     else record { refusal = 0; nco = record { phase = n.phase; freq = tuned n.freq sum; trail = Since (record { last_ss = theta; sum = pos 0; steps = 0 }) }; set = true }
 

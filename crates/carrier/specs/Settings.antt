@@ -1,6 +1,6 @@
 -- Ssync heads one after another, by their angles.
 use Rattle.std.specs.Prelude.{Bool, ◌||◌, List, [], ◌∷◌, ◌++◌, ℕ, ◌^◌, leb, ℤ, pos, ◌+ℤ◌}
-use Rattle.laws.specs.Choice.{if◌then◌else◌}
+use Rattle.laws.specs.Choice.{when◌then◌else◌}
 use Rattle.fx.specs.Answers.{wide}
 use Rattle.angles.specs.Angles.{turn_from}
 use Rattle.sync_heads.specs.declared.Head.{Head}
@@ -43,7 +43,7 @@ word_angles Fsync theta = []
 word_angles NotFsync theta = []
 
 unfoldable pub head_angles : Head → List ℕ
-head_angles h = if wide h.amp || leb (2 ^ 62) h.at then [] else word_angles h.word h.theta
+head_angles h = when wide h.amp || leb (2 ^ 62) h.at then [] else word_angles h.word h.theta
 
 unfoldable pub angles_of : List Call → List ℕ
 angles_of [] = []

@@ -9,15 +9,15 @@ use lib.IntN.{ℤ, pos, negsuc, nat_abs}
 use lib.Signed.{lt_z}
 use Rattle.laws.proofs.Tests.{never}
 use Rattle.laws.specs.Choice as X
-use Rattle.laws.specs.Choice.{if◌then◌else◌}
+use Rattle.laws.specs.Choice.{when◌then◌else◌}
 use Rattle.demap.specs.Answers.{demap_refusal, block_refusal}
 
 bad : (n : ℕ) → 0 < n → n ≡ 0 → ⊥
 bad n h e = omega arith
 
-tests : (a b c d e f : Bool) → ◌≡◌ {A = ℕ} (if a then 1 else if b || (c || not d) then 4 else if e || f then 5 else 0) 0 →
+tests : (a b c d e f : Bool) → ◌≡◌ {A = ℕ} (when a then 1 else when b || (c || not d) then 4 else when e || f then 5 else 0) 0 →
     (a ≡ false) × (b ≡ false) × (c ≡ false) × (d ≡ true) × (e ≡ false) × (f ≡ false)
-unfolding X.if◌then◌else◌
+unfolding X.when◌then◌else◌
 tests true b c d e f h = absurd (bad 1 (omega arith) h)
 tests false true c d e f h = absurd (bad 4 (omega arith) h)
 tests false false true d e f h = absurd (bad 4 (omega arith) h)
@@ -52,8 +52,8 @@ accepted bits len k room h =
     }
 
 -- ---- a block
-first_test : (a : Bool) (x : ℕ) → ◌≡◌ {A = ℕ} (if a then 1 else x) 0 → (a ≡ false) × (x ≡ 0)
-unfolding X.if◌then◌else◌
+first_test : (a : Bool) (x : ℕ) → ◌≡◌ {A = ℕ} (when a then 1 else x) 0 → (a ≡ false) × (x ≡ 0)
+unfolding X.when◌then◌else◌
 first_test true x h = absurd (bad 1 (omega arith) h)
 first_test false x h = (refl, h)
 

@@ -10,7 +10,7 @@ use Rattle.laws.proofs.Linear.{dn, sum_ud, dif_ud, ud_lt, ud_le, ud_eq, lt_ud, l
 use Rattle.laws.proofs.Product.{dist_sub}
 use Rattle.laws.proofs.Tests.{by_test, if_either}
 use Rattle.laws.specs.Choice as X
-use Rattle.laws.specs.Choice.{if◌then◌else◌, minus}
+use Rattle.laws.specs.Choice.{when◌then◌else◌, minus}
 use Rattle.demap.specs.Demap.{soft_of}
 
 -- ---- each step keeps the order
@@ -21,7 +21,7 @@ floor_up (negsuc a) (pos b) h = record { le = tt }
 floor_up (negsuc a) (negsuc b) h = le_ud _ _ (omega (arith, ud_le h))
 
 shift_up : (a b : ℤ) → a ≤ℤ b → round_shift a 32 ≤ℤ round_shift b 32
-unfolding round_shift X.if◌then◌else◌
+unfolding round_shift X.when◌then◌else◌
 shift_up a b h =
     let n = pos 4294967296 in
     floor_up (a +ℤ a +ℤ n) (b +ℤ b +ℤ n)
@@ -40,7 +40,7 @@ product_up a b k h z =
 
 clamp-up : (lo hi v w : ℤ) → lo ≤ℤ hi → v ≤ℤ w → clamp lo hi v ≤ℤ clamp lo hi w
 clamp-up lo hi v w l h =
-    if_either (λ (y : ℤ). clamp lo hi v ≤ℤ y) (lt_z w lo) lo (if lt_z hi w then hi else w)
+    if_either (λ (y : ℤ). clamp lo hi v ≤ℤ y) (lt_z w lo) lo (when lt_z hi w then hi else w)
     (λ e. of-v lo (λ d. le_ud lo lo (omega arith)) (λ d. le_ud hi lo (omega (arith, ud_le l, ud_le h, test_lt w lo e, test_lt hi v d))) (λ d f. le_ud v lo (omega (arith, ud_le h, test_lt w lo e))))
     (λ e.
     if_either (λ (y : ℤ). clamp lo hi v ≤ℤ y) (lt_z hi w) hi w
@@ -51,7 +51,7 @@ clamp-up lo hi v w l h =
     -- each of the three that clamp may choose is at most y
     of-v : (y : ℤ) → (lt_z v lo ≡ true → lo ≤ℤ y) → (lt_z hi v ≡ true → hi ≤ℤ y) → (lt_z v lo ≡ false → lt_z hi v ≡ false → v ≤ℤ y) → clamp lo hi v ≤ℤ y
     of-v y p q r =
-        if_either (λ (x : ℤ). x ≤ℤ y) (lt_z v lo) lo (if lt_z hi v then hi else v) p
+        if_either (λ (x : ℤ). x ≤ℤ y) (lt_z v lo) lo (when lt_z hi v then hi else v) p
         (λ d. if_either (λ (x : ℤ). x ≤ℤ y) (lt_z hi v) hi v q (λ g. r d g))
 
 pub soft_up : (gap gap2 k : ℤ) → gap ≤ℤ gap2 → pos 0 ≤ℤ k → soft_of gap k ≤ℤ soft_of gap2 k
@@ -62,7 +62,7 @@ soft_up a b k h z =
 
 -- ---- so it has the sign of the gap
 soft_zero : (k : ℤ) → soft_of (pos 0) k ≡ pos 0
-unfolding soft_of sat127_of round_shift X.if◌then◌else◌
+unfolding soft_of sat127_of round_shift X.when◌then◌else◌
 soft_zero k = rw (zero-*ℤ k)
 
 pub gap_above : (gap k : ℤ) → pos 0 ≤ℤ k → pos 0 <ℤ soft_of gap k → pos 0 <ℤ gap

@@ -13,7 +13,7 @@ use lib.Pow.{pow-lt, pow_pos, pow_mono}
 use lib.Signed.{lt_z}
 use Rattle.laws.proofs.Lists.{firsts-step, length-fill, getD-firsts, firsts-ext}
 use Rattle.laws.proofs.Tests.{if_both}
-use Rattle.laws.specs.Choice.{if◌then◌else◌, if_yes}
+use Rattle.laws.specs.Choice.{when◌then◌else◌, if_yes}
 use Rattle.laws.specs.Ranges.{min_z, least_of, firsts}
 use Rattle.demap.proofs.Fold.{pow2, kept_least, folded_size, bit_law, half_gap_ext, gap_ext}
 use Rattle.demap.specs.Demap.{least_metric, gap_of, soft_of, soft_at, soft_bits}
@@ -87,7 +87,7 @@ stage_step {f = f} {bits = bits} {k = k} {old = old} {m = m} {out = out} b m2 v 
 -- ---- the end
 one_left : (g : ℕ → ℤ) → least_metric g 1 ≡ g 0
 unfolding least_metric least_of min_z
-one_left g = if_yes true (if lt_z (g 0) (g 0) then g 0 else g 0) (g 0) refl ∙ if_both (λ (z : ℤ). z ≡ g 0) (lt_z (g 0) (g 0)) (g 0) (g 0) refl refl
+one_left g = if_yes true (when lt_z (g 0) (g 0) then g 0 else g 0) (g 0) refl ∙ if_both (λ (z : ℤ). z ≡ g 0) (lt_z (g 0) (g 0)) (g 0) (g 0) refl refl
 
 pub stage_least : {f : ℕ → ℤ} {bits : ℕ} {k : ℤ} {old m out : List ℤ} → Stage f bits k old 0 m out → entry m 0 ≡ least_metric f (2 ^ bits)
 stage_least {f = f} {bits = bits} s =

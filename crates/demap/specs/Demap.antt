@@ -2,7 +2,7 @@
 -- I before Q.
 use Rattle.std.specs.Prelude.{ℕ, zero, suc, ◌+◌, ◌-◌, ◌*◌, ◌/◌, ◌%◌, ◌^◌, ◌<◌, Bool, true, not, List, [], ◌++◌, eqb, ℤ, pos, ◌+ℤ◌, ◌-ℤ◌, ◌*ℤ◌, get_or, ◌≤ℤ◌}
 use Rattle.std.specs.Int.Signed.{lt_z}
-use Rattle.laws.specs.Choice.{if◌then◌else◌}
+use Rattle.laws.specs.Choice.{when◌then◌else◌}
 use Rattle.laws.specs.Ranges.{least_of, firsts, first_from}
 use Rattle.fx.specs.Fx.{round_shift, div_round, sat127_of}
 
@@ -76,4 +76,4 @@ block_bits sy points bits k (suc n) = block_bits sy points bits k n ++ soft_bits
 
 -- ---- the scale k of a noise figure: 2^32 / max(n0, 256), rounded
 unfoldable pub scale_of : ℤ → ℤ
-scale_of n0 = div_round (pos (2 ^ 32)) (if lt_z n0 (pos 256) then pos 256 else n0)
+scale_of n0 = div_round (pos (2 ^ 32)) (when lt_z n0 (pos 256) then pos 256 else n0)

@@ -1,6 +1,6 @@
 -- States as calls put them together.
 use Rattle.std.specs.Prelude.{ℕ, List, [], ◌∷◌, eqb, ltb, ℤ, set}
-use Rattle.laws.specs.Choice.{if◌then◌else◌}
+use Rattle.laws.specs.Choice.{when◌then◌else◌}
 use Rattle.learn.specs.declared.Learn.{Learn}
 use Rattle.in_force.specs.declared.InForce.{InForce}
 use Rattle.in_force.specs.declared.Source.{Source}
@@ -9,17 +9,17 @@ use Rattle.fields.specs.Fields.{at, at32, signed64, on}
 
 -- ---- a state of learning with another sum, another count, other noise
 unfoldable pub sum_put : Learn → ℕ → ℤ → Learn
-sum_put l k v = if ltb k 124 then record { sum = set l.sum k v; count = l.count; noise = l.noise; samples = l.samples } else l
+sum_put l k v = when ltb k 124 then record { sum = set l.sum k v; count = l.count; noise = l.noise; samples = l.samples } else l
 
 unfoldable pub count_put : Learn → ℕ → ℕ → Learn
-count_put l k v = if ltb k 62 then record { sum = l.sum; count = set l.count k v; noise = l.noise; samples = l.samples } else l
+count_put l k v = when ltb k 62 then record { sum = l.sum; count = set l.count k v; noise = l.noise; samples = l.samples } else l
 
 unfoldable pub noise_put : Learn → ℤ → ℕ → Learn
 noise_put l noise samples = record { sum = l.sum; count = l.count; noise = noise; samples = samples }
 
 -- ---- what is in force, numbers 1 to 9: five flags, noise figure, scale, whether there is a frame, its number
 unfoldable pub source_of : List ℕ → Source
-source_of p = if eqb (at p 8) 0 then Never else Frame (at32 p 9)
+source_of p = when eqb (at p 8) 0 then Never else Frame (at32 p 9)
 
 unfoldable pub force_of : List ℕ → InForce
 force_of p =

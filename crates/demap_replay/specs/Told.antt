@@ -1,6 +1,6 @@
 -- Answers as 24 numbers: the refusal, the answer's numbers, and zeros behind them. A negative number is 2^64 more.
 use Rattle.std.specs.Prelude.{ℕ, ◌+◌, ◌*◌, false, List, [], ◌∷◌, ◌++◌, ltb, ℤ, pos, get_or, replicate}
-use Rattle.laws.specs.Choice.{if◌then◌else◌}
+use Rattle.laws.specs.Choice.{when◌then◌else◌}
 use Rattle.learn.specs.declared.Learn.{Learn}
 use Rattle.learn.specs.declared.Figure.{Figure}
 use Rattle.learn.specs.declared.Figure.TheVariants.{Value, None}
@@ -23,7 +23,7 @@ single_told refusal v w = told refusal (v ∷ w ∷ replicate 7 0)
 -- ---- four soft values from o on
 unfoldable pub soft_told : ℕ → ℕ → List ℤ → List ℕ
 soft_told refusal o s =
-    if ltb o 38
+    when ltb o 38
     then told refusal
     ((bits (get_or s o (pos 0)) ∷ bits (get_or s (o + 1) (pos 0)) ∷ bits (get_or s (o + 2) (pos 0)) ∷ bits (get_or s (o + 3) (pos 0)) ∷ []) ++ replicate 5 0)
     else single_told 255 0 0
@@ -55,4 +55,4 @@ place_told l a =
     told 0 ((bits (sum_at l.sum (2 * a)) ∷ bits (sum_at l.sum (2 * a + 1)) ∷ count_at l.count a ∷ bits l.noise ∷ l.samples ∷ []) ++ replicate 4 0)
 
 unfoldable pub label_told : Learn → ℕ → List ℕ
-label_told l a = if ltb a 62 then place_told l a else single_told 255 0 0
+label_told l a = when ltb a 62 then place_told l a else single_told 255 0 0

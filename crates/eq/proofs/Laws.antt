@@ -7,7 +7,7 @@ use Rattle.eq.specs.Eq.{trains_eq}
 use Rattle.eq.specs.Ranges.{TrainOk, eq_in_range}
 use Rattle.eq.specs.declared.Equaliser.{Equaliser}
 use Rattle.laws.proofs.Tests.{and_both, by_test}
-use Rattle.laws.specs.Choice.{if_no, if_yes, if◌then◌else◌}
+use Rattle.laws.specs.Choice.{if_no, if_yes, when◌then◌else◌}
 use borrow.Author.Tests.{leb-false}
 use lib.Dec.{leb}
 use mathlib.Core.Bool.{Bool, ◌&&◌, false, true}
@@ -21,11 +21,11 @@ and_true false = refl
 -- ---- what a number of the state in its range says
 pub few_symbols : (e : Equaliser) → eq_in_range e ≡ true → leb e.filled 11 ≡ true
 unfolding eq_in_range
-few_symbols e h = (and_both (leb e.filled 11) (if e.opened then sums_in_range e.sums else true) h).0
+few_symbols e h = (and_both (leb e.filled 11) (when e.opened then sums_in_range e.sums else true) h).0
 
 pub open_sums : (e : Equaliser) → eq_in_range e ≡ true → e.opened ≡ true → sums_in_range e.sums ≡ true
 unfolding eq_in_range
-open_sums e h o = sym (if_yes e.opened (sums_in_range e.sums) true o) ∙ (and_both (leb e.filled 11) (if e.opened then sums_in_range e.sums else true) h).1
+open_sums e h o = sym (if_yes e.opened (sums_in_range e.sums) true o) ∙ (and_both (leb e.filled 11) (when e.opened then sums_in_range e.sums else true) h).1
 
 -- ---- no refusal: what is then known
 no : {X : Type 0} (n : ℕ) → suc n ≡ 0 → X
@@ -39,7 +39,7 @@ pub taking : (e : Equaliser) → train_refusal e ≡ 0 → Taking e
 unfolding train_refusal
 taking e h =
     let full = leb 4194304 e.sums.count in
-    let n8 : ℕ = if trains_eq e && full then 8 else 0 in
+    let n8 : ℕ = when trains_eq e && full then 8 else 0 in
     by_test (eq_in_range e)
     (λ a. let h1 : n8 ≡ 0 = sym (if_yes (eq_in_range e) n8 6 a) ∙ h in
     record {

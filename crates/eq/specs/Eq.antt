@@ -1,6 +1,6 @@
 -- The equaliser: 11 taps with 14 fraction bits, a line of 11 symbols, training sums.
 use Rattle.std.specs.Prelude.{ℕ, ◌+◌, min, Bool, true, false, ◌&&◌, List, leb, ltb, ℤ}
-use Rattle.laws.specs.Choice.{if◌then◌else◌}
+use Rattle.laws.specs.Choice.{when◌then◌else◌}
 use Rattle.sums.specs.Sums.{empty_sums}
 use Rattle.sums.specs.declared.Sums.{Sums}
 use Rattle.eq_fir.specs.Fir.{line_after, no_line, identity_taps, output_of}
@@ -32,7 +32,7 @@ pushed_eq e i q =
 
 -- "no output for the equaliser's first five symbols"
 unfoldable pub output_at : Equaliser → Equalised
-output_at e = if ltb 5 e.filled then Given (output_of e.taps e.line) else Nothing
+output_at e = when ltb 5 e.filled then Given (output_of e.taps e.line) else Nothing
 
 unfoldable pub with_sums : Equaliser → Bool → Sums → Equaliser
 with_sums e opened sums = record { line = e.line; filled = e.filled; taps = e.taps; from = e.from; opened = opened; sums = sums }
@@ -45,4 +45,4 @@ unfoldable pub trains_eq : Equaliser → Bool
 trains_eq e = e.opened && leb 11 e.filled
 
 unfoldable pub trained_eq : Equaliser → ℤ → ℤ → Equaliser
-trained_eq e di dq = if trains_eq e then with_sums e true (trained_sums e.sums e.line di dq) else e
+trained_eq e di dq = when trains_eq e then with_sums e true (trained_sums e.sums e.line di dq) else e

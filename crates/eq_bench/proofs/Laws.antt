@@ -1,6 +1,6 @@
 -- One more symbol of a block, one more training. Assumes nothing.
 use mathlib.Core.Bool.{true}
-use mathlib.Core.List.{List, ◌∷◌}
+use mathlib.Core.List.{List}
 use Rattle.laws.proofs.Tests.{and_both, by_test}
 use mathlib.Core.Path.{◌≡◌, refl, sym, ap, subst, ◌∙◌}
 use Prim.Native.Nat.{ℕ, zero, suc, ◌+◌, ◌*◌, ◌<◌}
@@ -10,7 +10,7 @@ use native.Mathlib.Omega.{arith}
 use borrow.Author.Tests.{eqb-true, eqb-false, leb-true}
 use lib.Dec.{eqb}
 use lib.IntN.{ℤ, pos, nat_abs}
-use lib.ListN.{length, get_or, set, take, length-take, get_or-replicate}
+use lib.ListN.{length, get_or, set, length-take, get_or-replicate}
 use lib.Seq.{get_or-take}
 use Rattle.angles.specs.declared.Symbol.{Symbol}
 use Rattle.eq_fir.specs.Fir.{line_after, no_line}

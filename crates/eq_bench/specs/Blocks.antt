@@ -2,7 +2,7 @@
 use Rattle.std.specs.Prelude.{ℕ, zero, suc, ◌+◌, ◌*◌, ◌/◌, ◌<◌, ◌≡◌, List, Bool, true, ◌&&◌, ℤ, pos, nat_abs, length, get_or, set, leb}
 use Rattle.std.specs.Int.{w16}
 use Rattle.std.proofs.Common.{SFits}
-use Rattle.laws.specs.Choice.{if◌then◌else◌}
+use Rattle.laws.specs.Choice.{when◌then◌else◌}
 use Rattle.eq_fir.specs.Fir.{line_after, no_line}
 use Rattle.eq_fir.specs.Rows.{output_by}
 use Rattle.eq_train.specs.Train.{nth, trained_sums}
@@ -44,10 +44,10 @@ abbrev pub filters : List ℤ → List ℤ → List ℤ → Bool
 filters rows ys out = in_bytes rows 96 && leb (length ys) (length out)
 
 unfoldable pub filtered_code : List ℤ → List ℤ → List ℤ → ℕ
-filtered_code rows ys out = if filters rows ys out then 1 else 0
+filtered_code rows ys out = when filters rows ys out then 1 else 0
 
 unfoldable pub filtered_out : List ℤ → List ℤ → List ℤ → List ℤ
-filtered_out rows ys out = if filters rows ys out then (filtered_by rows ys (length ys / 2) (filtered no_line out)).out else out
+filtered_out rows ys out = when filters rows ys out then (filtered_by rows ys (length ys / 2) (filtered no_line out)).out else out
 
 -- ---- a solve
 unfoldable pub solved_of : CSums → CSolved
@@ -73,4 +73,4 @@ unfoldable pub across_c : Sums → CSums
 across_c s = record { frame = s.frame; count = s.count; r = s.r; p = s.p }
 
 unfoldable pub trained_c : List ℤ → ℤ → ℤ → CSums
-trained_c ys di dq = if leb (length ys / 2) 4194304 then across_c (trained_along ys di dq (length ys / 2)) else across_c (empty_sums 0)
+trained_c ys di dq = when leb (length ys / 2) 4194304 then across_c (trained_along ys di dq (length ys / 2)) else across_c (empty_sums 0)

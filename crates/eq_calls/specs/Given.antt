@@ -1,6 +1,6 @@
 -- What the numbers of a call hold, and states with parts replaced.
 use Rattle.std.specs.Prelude.{ℕ, ◌+◌, ◌/◌, ◌%◌, List, eqb, ℤ, pos, get_or}
-use Rattle.laws.specs.Choice.{if◌then◌else◌}
+use Rattle.laws.specs.Choice.{when◌then◌else◌}
 use Rattle.laws.specs.Ranges.{firsts}
 use Rattle.eq.specs.declared.Equaliser.{Equaliser}
 use Rattle.eq.specs.declared.TapsFrom.{TapsFrom}
@@ -21,7 +21,7 @@ taps_put e taps = record { line = e.line; filled = e.filled; taps = taps; from =
 
 -- with other single numbers, 1 to 6: fill, whether the taps have a frame, that frame, whether sums are open, their frame, their count
 unfoldable pub from_of : List ℕ → TapsFrom
-from_of p = if eqb (at p 2) 0 then Identity else Frame (at32 p 3)
+from_of p = when eqb (at p 2) 0 then Identity else Frame (at32 p 3)
 
 unfoldable pub numbers_put : Equaliser → List ℕ → Equaliser
 numbers_put e p =
@@ -36,7 +36,7 @@ numbers_put e p =
 
 -- ---- sums with another group of 22 numbers of the upper entries, of which there are six; with other right-hand entries
 unfoldable pub upper_entry : List ℤ → ℕ → List ℤ → ℕ → ℤ
-upper_entry r group v j = if eqb (j / 22) group then get_or v (j % 22) (pos 0) else get_or r j (pos 0)
+upper_entry r group v j = when eqb (j / 22) group then get_or v (j % 22) (pos 0) else get_or r j (pos 0)
 
 unfoldable pub upper_of : List ℤ → ℕ → List ℤ → List ℤ
 upper_of r group v = firsts (upper_entry r group v) 132

@@ -1,6 +1,6 @@
 -- Answers as 24 numbers, zeros behind them. A negative number is 2^64 more.
 use Rattle.std.specs.Prelude.{ℕ, ◌-◌, List, [], ◌∷◌, ◌++◌, eqb, ltb, ℤ, pos, get_or, replicate}
-use Rattle.laws.specs.Choice.{if◌then◌else◌}
+use Rattle.laws.specs.Choice.{when◌then◌else◌}
 use Rattle.laws.specs.Ranges.{firsts}
 use Rattle.eq.specs.declared.TapsFrom.{TapsFrom}
 use Rattle.eq.specs.declared.TapsFrom.TheVariants.{Identity, Frame}
@@ -54,7 +54,7 @@ unfoldable pub bits_at : List ℤ → ℕ → ℕ
 bits_at taps k = bits (get_or taps k (pos 0))
 
 unfoldable pub solved_at : ℕ → List ℤ → ℕ → ℕ
-solved_at refusal taps k = if eqb k 0 then refusal else if ltb k 23 then bits_at taps (k - 1) else 0
+solved_at refusal taps k = when eqb k 0 then refusal else when ltb k 23 then bits_at taps (k - 1) else 0
 
 unfoldable pub solved_told : ℕ → List ℤ → List ℕ
 solved_told refusal taps = firsts (solved_at refusal taps) 24

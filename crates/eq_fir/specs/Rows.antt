@@ -2,7 +2,7 @@
 -- of products of the line with a row of such bytes. That this is the filter is a law (proofs/Filter.antt, `rows_output`).
 use Rattle.std.specs.Prelude.{ℕ, zero, suc, ◌+◌, ◌-◌, ◌*◌, ◌/◌, ◌%◌, ◌≤◌, ◌<◌, Bool, List, ◌≡◌, eqb, leb, drop, ℤ, pos, nat_abs, neg_ℤ, ◌+ℤ◌, ◌-ℤ◌, ◌*ℤ◌}
 use Rattle.std.specs.Int.Signed.{shr_z}
-use Rattle.laws.specs.Choice.{if◌then◌else◌}
+use Rattle.laws.specs.Choice.{when◌then◌else◌}
 use Rattle.laws.specs.Ranges.{firsts}
 use Rattle.fx.specs.Fx.{round_shift, sat16_of}
 use Rattle.angles.specs.declared.Symbol.{Symbol}
@@ -11,14 +11,14 @@ use Rattle.eq_fir.specs.Fir.{nth}
 
 -- the high or the low byte of w: 256 times the one and the other make w
 unfoldable pub byte_of : Bool → ℤ → ℤ
-byte_of high w = if high then shr_z w 256 else w -ℤ shr_z w 256 *ℤ pos 256
+byte_of high w = when high then shr_z w 256 else w -ℤ shr_z w 256 *ℤ pos 256
 
 -- what number k of the line is multiplied by: wr and -wi in the real part, wi and wr in the imaginary part
 unfoldable pub factor_at : List ℤ → Bool → Bool → ℕ → ℤ
 factor_at taps imag high k =
-    if imag
-    then if eqb (k % 2) 0 then byte_of high (nth taps (k + 1)) else byte_of high (nth taps (k - 1))
-    else if eqb (k % 2) 0 then byte_of high (nth taps k) else neg_ℤ (byte_of high (nth taps k))
+    when imag
+    then when eqb (k % 2) 0 then byte_of high (nth taps (k + 1)) else byte_of high (nth taps (k - 1))
+    else when eqb (k % 2) 0 then byte_of high (nth taps k) else neg_ℤ (byte_of high (nth taps k))
 
 -- 22 numbers with two zeros more, so that they are three vectors
 unfoldable pub padded : List ℤ → List ℤ
@@ -49,7 +49,7 @@ output_by rows line =
 unfoldable pub outputs_by : List ℤ → List ℤ → ℕ → ℕ → ℤ
 outputs_by rows buffer end j =
     let z = output_by rows (drop (end - 2 * (j / 2)) buffer) in
-    if eqb (j % 2) 0 then z.i else z.q
+    when eqb (j % 2) 0 then z.i else z.q
 
 -- the entries are bytes
 pub record Bytes (rows : List ℤ) : Type 0 where

@@ -11,7 +11,7 @@ use Rattle.eq_train.proofs.Theorems.{sound_in_range, train_sound}
 use Rattle.eq_train.specs.Ranges.{sums_in_range}
 use Rattle.eq_train.specs.Sound.{SumsSound}
 use Rattle.laws.proofs.Tests.{and_both, by_test, if_either, never}
-use Rattle.laws.specs.Choice.{if_no, if_yes, if◌then◌else◌}
+use Rattle.laws.specs.Choice.{if_no, if_yes, when◌then◌else◌}
 use Rattle.sums.specs.Sums.{empty_sums}
 use borrow.Author.Tests.{le-leb, leb-false}
 use lib.Dec.{leb}
@@ -93,7 +93,7 @@ loaded_coherent e taps frame c = record { filled = c.filled; pairs = c.pairs; sh
 pub coherent_in_range : (e : Equaliser) → Coherent e → eq_in_range e ≡ true
 unfolding eq_in_range
 coherent_in_range e c =
-    let t : (if e.opened then sums_in_range e.sums else true) ≡ true = if_either (λ (b : Bool). b ≡ true) e.opened (sums_in_range e.sums) true (λ o. sound_in_range e.sums (c.open_sums o)) (λ o. refl) in
+    let t : (when e.opened then sums_in_range e.sums else true) ≡ true = if_either (λ (b : Bool). b ≡ true) e.opened (sums_in_range e.sums) true (λ o. sound_in_range e.sums (c.open_sums o)) (λ o. refl) in
     rw (le-leb e.filled 11 c.filled, t)
 
 -- ---- a training

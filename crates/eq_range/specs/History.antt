@@ -1,6 +1,6 @@
 -- What outputs and sums say of the calls since a start and since an opening.
 use Rattle.std.specs.Prelude.{ℕ, suc, ◌≤◌, ◌<◌, Bool, true, ◌&&◌, List, [], ◌∷◌, ◌≡◌, eqb, ℤ}
-use Rattle.laws.specs.Choice.{if◌then◌else◌}
+use Rattle.laws.specs.Choice.{when◌then◌else◌}
 use Rattle.eq_fir.specs.Fir.{output_of}
 use Rattle.eq_train.specs.Sound.{Training, Holds}
 use Rattle.eq.specs.declared.Closed.{Closed}
@@ -62,7 +62,7 @@ trainings_in e (outputs ∷ cs) = trainings_in e cs
 trainings_in e (opens frame ∷ cs) = trainings_in (eq_of e (opens frame)) cs
 trainings_in e (trains di dq ∷ cs) =
     let ts = trainings_in (eq_of e (trains di dq)) cs in
-    if counts e then record { line = e.line; di = di; dq = dq } ∷ ts else ts
+    when counts e then record { line = e.line; di = di; dq = dq } ∷ ts else ts
 trainings_in e (closes ∷ cs) = trainings_in (eq_of e closes) cs
 trainings_in e (loads taps frame ∷ cs) = trainings_in (eq_of e (loads taps frame)) cs
 

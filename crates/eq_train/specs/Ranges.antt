@@ -1,7 +1,7 @@
 -- The ranges of docs/RANGES.md, "Equaliser", for sums, each entry's own; and what a training needs, which they imply.
 use Rattle.std.specs.Prelude.{ℕ, zero, suc, ◌+◌, ◌*◌, ◌-◌, ◌≤◌, ◌<◌, ◌^◌, Bool, true, ◌&&◌, leb, eqb, ℤ, pos, nat_abs, List}
 use Rattle.std.specs.Int.Signed.{le_z}
-use Rattle.laws.specs.Choice.{if◌then◌else◌, minus}
+use Rattle.laws.specs.Choice.{when◌then◌else◌, minus}
 use Rattle.sums.specs.Sums.{upper_at}
 use Rattle.sums.specs.declared.Sums.{Sums}
 use Rattle.eq_train.specs.Train.{nth}
@@ -19,7 +19,7 @@ product_in_range n re im =
 unfoldable pub entry_in_range : ℕ → List ℤ → ℕ → ℕ → Bool
 entry_in_range n s r c =
     let k = 2 * upper_at r c in
-    if eqb r c then diagonal_in_range n (nth s k) (nth s (k + 1)) else product_in_range n (nth s k) (nth s (k + 1))
+    when eqb r c then diagonal_in_range n (nth s k) (nth s (k + 1)) else product_in_range n (nth s k) (nth s (k + 1))
 
 -- m entries of row r from column c on; m rows from r on
 unfoldable pub row_in_range : ℕ → List ℤ → ℕ → ℕ → ℕ → Bool

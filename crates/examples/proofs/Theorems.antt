@@ -11,5 +11,5 @@ use Rattle.frame_map.specs.Map.{fields, runs, none_seen, also_seen, indexed, par
 use Rattle.examples.specs.Worked.{Example, worked}
 
 pub worked_right : map (λ (e : Example). e.given) worked ≡ map (λ (e : Example). e.said) worked
-unfolding worked round_shift div_round mag_approx cordic_angles right_half cordic_start cordic_step cordic_steps cordic_of gain_of squared_distance metric_of label_metric least_metric gap_of soft_of soft_at least_of min_z sat127_of fields runs none_seen also_seen indexed part_in part_of choice.if◌then◌else◌
+unfolding worked round_shift div_round mag_approx cordic_angles right_half cordic_start cordic_step cordic_steps cordic_of gain_of squared_distance metric_of label_metric least_metric gap_of soft_of soft_at least_of min_z sat127_of fields runs none_seen also_seen indexed part_in part_of choice.when◌then◌else◌
 worked_right = refl

@@ -1,7 +1,7 @@
 -- What the numbers of a call hold. A field takes as many low bits of its number as it has; a signed field's are two's complement. A flag is off
 -- for 0 and on for any other number.
 use Rattle.std.specs.Prelude.{ℕ, ◌+◌, ◌*◌, ◌%◌, ◌^◌, Bool, not, List, [], ◌∷◌, ◌++◌, eqb, ltb, ℤ, get_or, length, set, replicate}
-use Rattle.laws.specs.Choice.{if◌then◌else◌}
+use Rattle.laws.specs.Choice.{when◌then◌else◌}
 use Rattle.laws.specs.Ranges.{firsts}
 use Rattle.wire.specs.Wire.{signed}
 
@@ -35,7 +35,7 @@ on p k = not (eqb (at p k) 0)
 
 -- a flag as a number
 unfoldable pub flag_of : Bool → ℕ
-flag_of b = if b then 1 else 0
+flag_of b = when b then 1 else 0
 
 -- the 22 numbers from 2 on
 unfoldable pub sixteens_of : List ℕ → List ℤ
@@ -58,14 +58,14 @@ pair_at bytes k = pair_of (get_or bytes k 0) (get_or bytes (k + 1) 0)
 -- ---- lent parts
 -- the smaller
 unfoldable pub least_of : ℕ → ℕ → ℕ
-least_of n all = if ltb n all then n else all
+least_of n all = when ltb n all then n else all
 
 -- number 1 names an entry, number 2 is its value
 unfoldable pub set_of : List ℕ → List ℤ → List ℤ
-set_of p l = if ltb (at p 1) (length l) then set l (at p 1) (signed16 p 2) else l
+set_of p l = when ltb (at p 1) (length l) then set l (at p 1) (signed16 p 2) else l
 
 unfoldable pub set_natural_of : List ℕ → List ℕ → List ℕ
-set_natural_of p l = if ltb (at p 1) (length l) then set l (at p 1) (at32 p 2) else l
+set_natural_of p l = when ltb (at p 1) (length l) then set l (at p 1) (at32 p 2) else l
 
 -- ---- an answer of 24 numbers: a refusal, or 0, and three more; zeros behind them
 unfoldable pub four_told : ℕ → ℕ → ℕ → ℕ → List ℕ

@@ -7,7 +7,7 @@ use mathlib.Core.Path.{◌≡◌, refl, sym, ◌∙◌}
 use borrow.Author.Tests.{le-leb, lt-leb, leb-true, leb-false, ltb-true, ltb-false}
 use lib.Dec.{leb, ltb}
 use lib.IntN.{ℤ}
-use Rattle.laws.specs.Choice.{if◌then◌else◌, if_yes, if_no}
+use Rattle.laws.specs.Choice.{when◌then◌else◌, if_yes, if_no}
 use Rattle.laws.proofs.Tests.{by_test, and_both, if_both, never}
 use Rattle.fx.specs.Answers.{wide}
 use Rattle.sync_corr.specs.Correlate.{ones_of}
@@ -77,7 +77,7 @@ ranged b h =
 
 -- a gap leaves an equaliser in range
 joined_ranged : (b : Back) (at : ℕ) → eq_in_range b.eq ≡ true → eq_in_range (joined_to b at).eq ≡ true
-unfolding joined_to restarted_back started_back started_eq eq_in_range if◌then◌else◌
+unfolding joined_to restarted_back started_back started_eq eq_in_range when◌then◌else◌
 joined_ranged b at h = if_both (λ x. eq_in_range x.eq ≡ true) (gap_at b.last at) (restarted_back b) b refl h
 
 -- a symbol can be taken where the oldest needs no room or has it
@@ -122,9 +122,9 @@ accepted b c f s h =
     let good = back_in_range b && ltb c.j 9296 in
     let fine = not (wide c.gain) in
     let ones = ones_of f && ones_of s in
-    let n8 : ℕ = if full then 8 else 0 in
-    let n7 : ℕ = if past then 7 else n8 in
-    let n6 : ℕ = if good && fine then n7 else 6 in
+    let n8 : ℕ = when full then 8 else 0 in
+    let n7 : ℕ = when past then 7 else n8 in
+    let n6 : ℕ = when good && fine then n7 else 6 in
     by_test ones
     (λ o.
     let h6 : n6 ≡ 0 = sym (if_yes ones n6 2 o) ∙ h in

@@ -8,7 +8,7 @@ use borrow.Author.Tests.{le-leb, lt-leb, leb-true, leb-false, ltb-true, ltb-fals
 use lib.Dec.{leb, ltb}
 use lib.IntN.{ℤ}
 use lib.ListN.{length}
-use Rattle.laws.specs.Choice.{if◌then◌else◌, if_no}
+use Rattle.laws.specs.Choice.{when◌then◌else◌, if_no}
 use Rattle.laws.proofs.Tests.{by_test, and_both}
 use Rattle.phase.specs.declared.Corrected.{Corrected}
 use Rattle.eq_train.specs.Train.{trained_sums}
@@ -42,7 +42,7 @@ unfolding joined_to
 no_gap b at h = if_no (gap_at b.last at) (restarted_back b) b h
 
 taken_step : (b : Back) (c : Corrected) (f s : List ℤ) → b.metas.count ≤ 5 → gap_at b.last c.at ≡ false → Step b c f s
-unfolding pushed_back taken_by given_by joined moved if◌then◌else◌
+unfolding pushed_back taken_by given_by joined moved when◌then◌else◌
 taken_step b c f s h g =
     by_test (ltb b.metas.count 5)
     (λ t.
@@ -101,12 +101,12 @@ new_restarted = refl
 
 -- ---- A GAP RESTARTS: the symbol is the first of a new stretch
 pub gap_theorem : (b : Back) (c : Corrected) (f s : List ℤ) → gap_at b.last c.at ≡ true → pushed_back b c f s ≡ pushed_back (restarted_back b) c f s
-unfolding pushed_back joined_to restarted_back started_back gap_at if◌then◌else◌
+unfolding pushed_back joined_to restarted_back started_back gap_at when◌then◌else◌
 gap_theorem b c f s h = rw h
 
 -- ---- THE COUNT OF OPEN SUMS is that of the sync symbols aligned on a full line
-trained_count : (e : Equaliser) (m : Meta) (f s : List ℤ) → (trained_at e m f s).sums.count ≡ e.sums.count + (if is_sync (part_of m.j) && trains_eq e then 1 else 0)
-unfolding trained_at trained_part is_sync trained_eq with_sums trained_sums if◌then◌else◌
+trained_count : (e : Equaliser) (m : Meta) (f s : List ℤ) → (trained_at e m f s).sums.count ≡ e.sums.count + (when is_sync (part_of m.j) && trains_eq e then 1 else 0)
+unfolding trained_at trained_part is_sync trained_eq with_sums trained_sums when◌then◌else◌
 trained_count e m f s =
     by_test (ltb m.j 24) (λ t. rw (part_sync m.j (ltb-true m.j 24 t)) (by_test (trains_eq e) (λ u. rw u) (λ u. rw u (omega arith))))
     (λ t. rw (untrained e m f s (ltb-false m.j 24 t), sync_places m.j, t) (omega arith))
@@ -121,8 +121,8 @@ and_assoc true b c = refl
 and_assoc false b c = refl
 
 counted : (b : Back) (c : Corrected) (f s : List ℤ) → gap_at b.last c.at ≡ false
-    → (pushed_back b c f s).back.eq.sums.count ≡ b.eq.sums.count + (if trains_back b then 1 else 0)
-unfolding pushed_back taken_by trains_back trains_eq pushed_eq if◌then◌else◌
+    → (pushed_back b c f s).back.eq.sums.count ≡ b.eq.sums.count + (when trains_back b then 1 else 0)
+unfolding pushed_back taken_by trains_back trains_eq pushed_eq when◌then◌else◌
 counted b c f s g =
     let n = b.metas.count in
     let e = b.eq in

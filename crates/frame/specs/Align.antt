@@ -1,6 +1,6 @@
 -- "A corrected slot is aligned as in `Back::push`, five symbols late."
 use Rattle.std.specs.Prelude.{ℕ, Bool, true, false, List, ltb, ℤ}
-use Rattle.laws.specs.Choice.{if◌then◌else◌}
+use Rattle.laws.specs.Choice.{when◌then◌else◌}
 use Rattle.angles.specs.declared.Symbol.{Symbol}
 use Rattle.phase.specs.declared.Corrected.{Corrected}
 use Rattle.eq.specs.declared.Equaliser.{Equaliser}
@@ -32,7 +32,7 @@ restarted_back b = started_back (started_eq b.eq.taps b.eq.from)
 -- ---- one corrected symbol
 -- a gap in the positions restarts
 unfoldable pub joined_to : Back → ℕ → Back
-joined_to b at = if gap_at b.last at then restarted_back b else b
+joined_to b at = when gap_at b.last at then restarted_back b else b
 
 -- the equalised value, or the symbol's own y where the line gives none (a handed-in state alone)
 unfoldable pub equalised_by : Equalised → Symbol → Symbol
@@ -55,7 +55,7 @@ unfoldable pub taken_by : Back → Corrected → List ℤ → List ℤ → Pushe
 taken_by b c f s =
     let e = pushed_eq b.eq c.y.i c.y.q in
     let w = b.metas in
-    if ltb w.count 5
+    when ltb w.count 5
     then record { refusal = 0; back = record { eq = e; metas = joined w (meta_of c); last = At c.at }; out = Nothing }
     else record {
       refusal = 0;

@@ -8,7 +8,7 @@ use Rattle.frame_line.specs.Line.{meta_of, gap_at}
 use Rattle.frame.specs.declared.Back.{Back}
 use Rattle.frame.specs.declared.Aligned.{Aligned}
 use Rattle.frame.specs.declared.Aligned.TheVariants.{Nothing, Given}
-use Rattle.laws.specs.Choice.{if◌then◌else◌}
+use Rattle.laws.specs.Choice.{when◌then◌else◌}
 use Rattle.frame.specs.Align.{pushed_back}
 use Rattle.frame.specs.Answers.{trains_back}
 
@@ -39,4 +39,4 @@ metas_of (c ∷ cs) = meta_of c ∷ metas_of cs
 -- how many sync symbols were aligned on a full line with sums open
 unfoldable pub trained_in : Back → List Corrected → List ℤ → List ℤ → ℕ
 trained_in b [] f s = 0
-trained_in b (c ∷ cs) f s = (if trains_back b then 1 else 0) + trained_in (pushed_back b c f s).back cs f s
+trained_in b (c ∷ cs) f s = (when trains_back b then 1 else 0) + trained_in (pushed_back b c f s).back cs f s

@@ -1,5 +1,5 @@
 -- How often whole slots train. Assumes nothing.
-use Prim.Native.Nat.{ℕ, zero, suc, ◌+◌, ◌-◌, ◌*◌, ◌/◌, ◌%◌, ◌^◌, ◌≤◌, ◌<◌, min}
+use Prim.Native.Nat.{ℕ, zero, suc, ◌+◌, ◌*◌, ◌/◌, ◌%◌, ◌^◌, ◌≤◌, ◌<◌, min}
 use native.Mathlib.Omega.{arith}
 use mathlib.Core.Bool.{true, false, not}
 use mathlib.Core.List.{List, [], ◌∷◌, ◌++◌, append-nil, append_assoc}
@@ -9,7 +9,7 @@ use lib.Dec.{ltb}
 use lib.IntN.{ℤ}
 use lib.ListN.{length, get_or, take, drop, length-append, take-append-drop, get_or-append, length-take, length-drop}
 use lib.Seq.{take-suc, take-take}
-use Rattle.laws.specs.Choice.{if◌then◌else◌}
+use Rattle.laws.specs.Choice.{when◌then◌else◌}
 use Rattle.laws.proofs.Tests.{by_test, if_both, and_both}
 use Rattle.phase.specs.declared.Corrected.{Corrected}
 use Rattle.sync_corr.specs.Correlate.{ones_of}
@@ -31,15 +31,15 @@ use Rattle.frame_calls.proofs.Theorems.{calls_told}
 syncs_to : ℕ → ℕ
 syncs_to m = m / 9296 * 24 + min (m % 9296) 24
 
-one_place : (m : ℕ) → syncs_to (suc m) ≡ syncs_to m + (if ltb (m % 9296) 24 then 1 else 0)
-unfolding syncs_to if◌then◌else◌
+one_place : (m : ℕ) → syncs_to (suc m) ≡ syncs_to m + (when ltb (m % 9296) 24 then 1 else 0)
+unfolding syncs_to when◌then◌else◌
 one_place m = by_test (ltb (m % 9296) 24) (λ t. rw t (omega (arith, ltb-true (m % 9296) 24 t))) (λ t. rw t (omega (arith, ltb-false (m % 9296) 24 t)))
 
 no_syncs : syncs_to 0 ≡ 0
 unfolding syncs_to
 no_syncs = omega arith
 
-one_sync : (c : Corrected) → syncs_in (c ∷ []) ≡ (if ltb c.j 24 then 1 else 0)
+one_sync : (c : Corrected) → syncs_in (c ∷ []) ≡ (when ltb c.j 24 then 1 else 0)
 unfolding syncs_in
 one_sync c = rw (sync_places c.j) (omega arith)
 
@@ -47,7 +47,7 @@ syncs_to_lem : (xs : List Corrected) (c : Corrected) (m : ℕ) → Runs xs → m
 syncs_to_lem xs c zero r h = unfold syncs_in syncs_to in refl
 syncs_to_lem xs c (suc m) r h =
     ap syncs_in (take-suc xs m c (omega arith)) ∙ syncs_append (take m xs) (get_or xs m c ∷ [])
-    ∙ omega (arith, syncs_to_lem xs c m r (omega arith), one_place m, one_sync (get_or xs m c), ap {B = ℕ} (λ (k : ℕ). if ltb k 24 then 1 else 0) (r m c (omega arith)))
+    ∙ omega (arith, syncs_to_lem xs c m r (omega arith), one_place m, one_sync (get_or xs m c), ap {B = ℕ} (λ (k : ℕ). when ltb k 24 then 1 else 0) (r m c (omega arith)))
 
 -- .. and among those from a on
 syncs_between : (xs : List Corrected) (c : Corrected) (a m : ℕ) → Runs xs → a ≤ m → m ≤ length xs → syncs_in (drop a (take m xs)) + syncs_to a ≡ syncs_to m
@@ -136,7 +136,7 @@ room h c l =
 -- a symbol that follows, with arguments that are not refused and room for its training, is taken
 one-heard : (h : Received) (c : Corrected) (f s : List ℤ) → ones_of f ≡ true → ones_of s ≡ true → Fine c → gap_at (last_of h.stretch) c.at ≡ false
     → length h.stretch < 4194304 → heard h (pushes c f s) ≡ joined_by h c
-unfolding heard push_refused joining if◌then◌else◌
+unfolding heard push_refused joining when◌then◌else◌
 one-heard h c f s hf hs k g l = rw (hf, hs, lt-ltb c.j 9296 k.place, k.gain, lt-leb (2 ^ 62) c.at k.before, g, room h c l)
 
 -- .. and so do all

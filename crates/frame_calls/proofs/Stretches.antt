@@ -8,7 +8,7 @@ use borrow.Author.Tests.{leb-true, leb-false}
 use lib.Dec.{leb}
 use lib.ListN.{length, get_or, take, drop, length-append, length-take, drop_of_length-le}
 use lib.Seq.{take-append-le, drop-append-le, take-suc, length-take-le}
-use Rattle.laws.specs.Choice.{if◌then◌else◌}
+use Rattle.laws.specs.Choice.{when◌then◌else◌}
 use Rattle.laws.proofs.Tests.{by_test}
 use Rattle.phase.specs.declared.Corrected.{Corrected}
 use Rattle.frame_map.specs.Map.{part_of}
@@ -91,8 +91,8 @@ begins none = 0
 begins (since frame n) = n
 
 trained_more : (o : Opening) (xs : List Corrected) (c : Corrected) → begins o ≤ length xs
-    → trained_by o (xs ++ c ∷ []) ≡ trained_by o xs + (if is_open o && leb 10 (length xs) && is_sync (part_of (get_or xs (length xs - 5) c).j) then 1 else 0)
-unfolding trained_by syncs_in is_open begins if◌then◌else◌
+    → trained_by o (xs ++ c ∷ []) ≡ trained_by o xs + (when is_open o && leb 10 (length xs) && is_sync (part_of (get_or xs (length xs - 5) c).j) then 1 else 0)
+unfolding trained_by syncs_in is_open begins when◌then◌else◌
 trained_more none xs c h = omega arith
 trained_more (since frame n) xs c h =
     let old = drop (ignored_to n) (take (aligned_by (length xs)) xs) in
@@ -102,7 +102,7 @@ trained_more (since frame n) xs c h =
     let l = leb-false 10 (length xs) t in
     rw (t, none_counted n xs (omega (arith, l)), none_counted n (xs ++ c ∷ []) (omega (arith, l, length_snoc xs c))) (omega arith))
 
-pub trained_next : (h : Received) (c : Corrected) → begins h.sums ≤ length h.stretch → trained_since (joined_by h c) ≡ trained_since h + (if trains_next h c then 1 else 0)
+pub trained_next : (h : Received) (c : Corrected) → begins h.sums ≤ length h.stretch → trained_since (joined_by h c) ≡ trained_since h + (when trains_next h c then 1 else 0)
 unfolding trained_since joined_by trains_next
 trained_next h c b = trained_more h.sums h.stretch c b
 

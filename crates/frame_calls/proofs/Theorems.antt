@@ -9,7 +9,7 @@ use lib.Dec.{eqb, leb, ltb}
 use lib.IntN.{ℤ}
 use lib.ListN.{length, get_or, drop, length-append, length-drop}
 use lib.Seq.{drop-append_seam, drop-append-le, drop-drop, get_or-drop}
-use Rattle.laws.specs.Choice.{if◌then◌else◌, if_yes, if_no}
+use Rattle.laws.specs.Choice.{when◌then◌else◌, if_yes, if_no}
 use Rattle.laws.proofs.Tests.{by_test, if_both, if_either}
 use Rattle.phase.specs.declared.Corrected.{Corrected}
 use Rattle.sums.specs.declared.Sums.{Sums}
@@ -81,7 +81,7 @@ record Filled (b : Back) (c : Corrected) (f s : List ℤ) : Type 0 where
   pub frame : (pushed_back b c f s).back.eq.sums.frame ≡ b.eq.sums.frame
 
 pushed_filled : (b : Back) (c : Corrected) (f s : List ℤ) → gap_at b.last c.at ≡ false → Filled b c f s
-unfolding pushed_back taken_by pushed_eq with_sums trained_sums if◌then◌else◌
+unfolding pushed_back taken_by pushed_eq with_sums trained_sums when◌then◌else◌
 pushed_filled b c f s g =
     let e = pushed_eq b.eq c.y.i c.y.q in
     let m = b.metas.first in
@@ -177,7 +177,7 @@ pushed_trained : (b : Back) (h : Received) (c : Corrected) (f s : List ℤ) → 
 unfolding after_all trained_in
 pushed_trained b h c f s t g =
     let n = count_theorem b (c ∷ []) f s (omega (arith, t.count)) (alone b c g) in
-    let e = ap {B = ℕ} (λ (x : Bool). if x then 1 else 0) (trains_told b h c t) in
+    let e = ap {B = ℕ} (λ (x : Bool). when x then 1 else 0) (trains_told b h c t) in
     omega (arith, n, e, t.trained, trained_next h c t.begun)
 
 -- ---- one symbol
@@ -216,8 +216,8 @@ any_tied b h c f s t =
     (λ u. rw (if_no gap (dropped h) h u) (pushed_tied b h c f s t (e ∙ u)))
 
 -- ---- refusals
-more_than : (n : ℕ) (t : Bool) → ltb n (n + (if t then 1 else 0)) ≡ t
-unfolding if◌then◌else◌
+more_than : (n : ℕ) (t : Bool) → ltb n (n + (when t then 1 else 0)) ≡ t
+unfolding when◌then◌else◌
 more_than n true = lt-ltb n (n + 1) (omega arith)
 more_than n false = le-ltb n (n + 0) (omega arith)
 
@@ -250,7 +250,7 @@ record Closes (e : Equaliser) : Type 0 where
   pub sums : (close_answer e).sums ≡ e.sums
 
 close_is : (e : Equaliser) → Coherent e → Closes e
-unfolding close_answer with_sums if◌then◌else◌
+unfolding close_answer with_sums when◌then◌else◌
 close_is e k =
     let r = coherent_in_range e k in
     by_test e.opened (λ o. record { refusal = rw (r, o); eq = rw (r, o); ended = rw (r, o); sums = rw (r, o) })
@@ -302,11 +302,11 @@ loaded_tied b h taps frame t =
 
 -- ---- a push, by its refusal
 push_taken : (b : Back) (c : Corrected) (f s : List ℤ) → eqb (push_refusal b c f s) 0 ≡ true → (push_answer b c f s).back ≡ (pushed_back b c f s).back
-unfolding push_answer if◌then◌else◌
+unfolding push_answer when◌then◌else◌
 push_taken b c f s u = rw u
 
 push_refused_lem : (b : Back) (c : Corrected) (f s : List ℤ) → eqb (push_refusal b c f s) 0 ≡ false → (push_answer b c f s).back ≡ b
-unfolding push_answer if◌then◌else◌
+unfolding push_answer when◌then◌else◌
 push_refused_lem b c f s u = rw u
 
 push_number : (b : Back) (c : Corrected) (f s : List ℤ) → (push_answer b c f s).refusal ≡ push_refusal b c f s
@@ -354,7 +354,7 @@ call_refusal b h (loads taps frame) k t = ap (λ (x : Kept). x.refusal) (load_is
 
 -- ---- WHAT COMES OUT, by what was received
 taken_out : (b : Back) (h : Received) (c : Corrected) (f s : List ℤ) → Tied b h → Brings h c (taken_by b c f s).out
-unfolding taken_by given_by if◌then◌else◌
+unfolding taken_by given_by when◌then◌else◌
 taken_out b h c f s t =
     record {
       few = λ l. rw (lt-ltb b.metas.count 5 (omega (arith, t.count, l)));
@@ -362,7 +362,7 @@ taken_out b h c f s t =
     }
 
 push_out : (b : Back) (h : Received) (c : Corrected) (f s : List ℤ) → CoherentBack b → Tied b h → push_refused h c f s ≡ 0 → Brings (joining h c) c (push_answer b c f s).out
-unfolding push_answer pushed_back if◌then◌else◌
+unfolding push_answer pushed_back when◌then◌else◌
 push_out b h c f s k t z =
     let e : push_refusal b c f s ≡ 0 = push_told b h c f s k t ∙ z in
     rw e (taken_out (joined_to b c.at) (joining h c) c f s (joined_tied b h c t))

@@ -1,6 +1,6 @@
 -- What an alignment has received, by its calls alone: no alignment and no equaliser stands in here.
 use Rattle.std.specs.Prelude.{ℕ, ◌+◌, ◌-◌, ◌^◌, max, Bool, true, false, not, ◌&&◌, List, [], ◌∷◌, ◌++◌, eqb, leb, ltb, ℤ, length, take, drop}
-use Rattle.laws.specs.Choice.{if◌then◌else◌}
+use Rattle.laws.specs.Choice.{when◌then◌else◌}
 use Rattle.fx.specs.Answers.{wide}
 use Rattle.sync_corr.specs.Correlate.{ones_of}
 use Rattle.phase.specs.declared.Corrected.{Corrected}
@@ -41,7 +41,7 @@ aligned_by n = n - 5
 -- "24 sync, 32 pilot, .." (The receiver): the sync symbols among these
 unfoldable pub syncs_in : List Corrected → ℕ
 syncs_in [] = 0
-syncs_in (c ∷ cs) = (if is_sync (part_of c.j) then 1 else 0) + syncs_in cs
+syncs_in (c ∷ cs) = (when is_sync (part_of c.j) then 1 else 0) + syncs_in cs
 
 -- "training ignored while the line holds under 11 symbols or no sums are open" (Refusals): with sums opened after the n-th symbol, what was
 -- aligned up to that one, and up to the tenth
@@ -68,7 +68,7 @@ dropped h = record { stretch = []; sums = none }
 
 -- what a symbol at its position joins, and with it
 unfoldable pub joining : Received → Corrected → Received
-joining h c = if gap_at (last_of h.stretch) c.at then dropped h else h
+joining h c = when gap_at (last_of h.stretch) c.at then dropped h else h
 
 unfoldable pub joined_by : Received → Corrected → Received
 joined_by h c = record { stretch = h.stretch ++ c ∷ []; sums = h.sums }
@@ -80,9 +80,9 @@ full_for h c = ltb (trained_since h) (trained_since (joined_by h c)) && leb 4194
 -- 2, an entry of a word; 6, "slot index over 9,295", a gain of size over 2^60; 7, at 2^62 or more; 8 (Refusals)
 unfoldable pub push_refused : Received → Corrected → List ℤ → List ℤ → ℕ
 push_refused h c f s =
-    if ones_of f && ones_of s
-    then if ltb c.j 9296 && not (wide c.gain)
-    then if leb (2 ^ 62) c.at then 7 else if full_for (joining h c) c then 8 else 0
+    when ones_of f && ones_of s
+    then when ltb c.j 9296 && not (wide c.gain)
+    then when leb (2 ^ 62) c.at then 7 else when full_for (joining h c) c then 8 else 0
     else 6
     else 2
 
@@ -95,7 +95,7 @@ refused_by h closes = 0
 refused_by h (loads taps frame) = 0
 
 unfoldable pub heard : Received → Call → Received
-heard h (pushes c f s) = if eqb (push_refused h c f s) 0 then joined_by (joining h c) c else h
+heard h (pushes c f s) = when eqb (push_refused h c f s) 0 then joined_by (joining h c) c else h
 heard h restarts = dropped h
 heard h (opens frame) = record { stretch = h.stretch; sums = since frame (length h.stretch) }
 heard h closes = record { stretch = h.stretch; sums = none }

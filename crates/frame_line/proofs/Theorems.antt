@@ -4,7 +4,7 @@ use native.Mathlib.Omega.{arith}
 use mathlib.Core.List.{[], ◌∷◌, ◌++◌}
 use mathlib.Core.Path.{◌≡◌, refl}
 use lib.ListN.{length, length-take, take}
-use Rattle.laws.specs.Choice.{if◌then◌else◌}
+use Rattle.laws.specs.Choice.{when◌then◌else◌}
 use Rattle.frame_line.specs.declared.Meta.{Meta}
 use Rattle.frame_line.specs.declared.Metas.{Metas}
 use Rattle.frame_line.specs.Line.{no_metas, placed_at, joined, moved}
@@ -23,7 +23,7 @@ waiting_length w h = omega (arith, length-take w.count (w.first ∷ w.second ∷
 -- ---- ONE THAT JOINS STANDS BEHIND THE OTHERS
 behind : (n : ℕ) (a b c d e m : Meta) → n < 5
     → take (n + 1) (placed_at n 0 m a ∷ placed_at n 1 m b ∷ placed_at n 2 m c ∷ placed_at n 3 m d ∷ placed_at n 4 m e ∷ []) ≡ take n (a ∷ b ∷ c ∷ d ∷ e ∷ []) ++ m ∷ []
-unfolding placed_at if◌then◌else◌
+unfolding placed_at when◌then◌else◌
 behind zero a b c d e m h = refl
 behind (suc zero) a b c d e m h = refl
 behind (suc (suc zero)) a b c d e m h = refl

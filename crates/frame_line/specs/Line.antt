@@ -1,6 +1,6 @@
 -- "A corrected slot is aligned as in `Back::push`, five symbols late": the symbols that wait.
 use Rattle.std.specs.Prelude.{ℕ, ◌+◌, Bool, false, not, eqb}
-use Rattle.laws.specs.Choice.{if◌then◌else◌}
+use Rattle.laws.specs.Choice.{when◌then◌else◌}
 use Rattle.sync_heads.specs.declared.Word.TheVariants.{Ssync}
 use Rattle.sync_heads.specs.declared.Slot.TheVariants.{Unknown}
 use Rattle.phase.specs.declared.Corrected.{Corrected}
@@ -21,7 +21,7 @@ meta_of c = record { at = c.at; j = c.j; word = c.word; slot = c.slot }
 
 -- what stands at place k once m has come behind n others
 unfoldable pub placed_at : ℕ → ℕ → Meta → Meta → Meta
-placed_at n k m old = if eqb n k then m else old
+placed_at n k m old = when eqb n k then m else old
 
 -- a symbol behind those that wait, where fewer than five do
 unfoldable pub joined : Metas → Meta → Metas

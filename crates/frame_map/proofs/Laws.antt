@@ -1,9 +1,8 @@
 -- The fields behind sync and pilots, by division. Assumes nothing.
-use mathlib.Core.Bool.{true, false}
+use mathlib.Core.Bool.{true}
 use mathlib.Core.List.{List}
 use mathlib.Core.Path.{◌≡◌, refl, sym, ap, ap₂, ◌∙◌}
 use Prim.Native.Nat.{ℕ, zero, suc, ◌+◌, ◌-◌, ◌*◌, ◌/◌, ◌%◌, ◌≤◌, ◌<◌}
-use native.Mathlib.Nat.{not-suc-le-zero, div-eq_of_lt, mod-eq_of_lt}
 use native.Mathlib.Omega.{arith}
 use borrow.Author.Tests.{ltb-true, ltb-false, lt-ltb, le-ltb}
 use lib.Dec.{ltb}
@@ -13,15 +12,15 @@ use Rattle.laws.proofs.Tests.{by_test}
 use Rattle.sync_corr.proofs.Laws.{one_at}
 use Rattle.sync_corr.specs.Correlate as corr
 use Rattle.sync_corr.specs.Correlate.{ones_of}
-use Rattle.laws.specs.Choice.{if◌then◌else◌, if_yes, if_no}
-use Rattle.frame_map.specs.Map.{Kind, Field, ◌of◌, Seen, also_seen, indexed, part_in, part_of, fields, runs, start_seen, none_seen}
-use Rattle.frame_map.specs.Map.Kind.{sync, pilot, main, tmcc}
+use Rattle.laws.specs.Choice.{when◌then◌else◌, if_yes, if_no}
+use Rattle.frame_map.specs.Map.{◌of◌, Seen, also_seen, indexed, part_in, part_of, fields, runs, start_seen, none_seen}
+use Rattle.frame_map.specs.Map.Kind.{main, tmcc}
 use Rattle.frame_map.specs.declared.SlotPart.{SlotPart}
 use Rattle.frame_map.specs.declared.SlotPart.TheVariants.{Sync, Pilot, Main, Tmcc, Refused}
 
 -- symbol x of n runs of 140, after s: its run and its place in the run
 abbrev by_run : Seen → ℕ → SlotPart
-by_run s x = if ltb (x % 140) 136 then Main (s.mains + (x / 140 * 136 + x % 140)) else Tmcc (s.tmccs + (x / 140 * 4 + (x % 140 - 136)))
+by_run s x = when ltb (x % 140) 136 then Main (s.mains + (x / 140 * 136 + x % 140)) else Tmcc (s.tmccs + (x / 140 * 4 + (x % 140 - 136)))
 
 main_first : (s : Seen) (x : ℕ) → x < 136 → Main (s.mains + x) ≡ by_run s x
 main_first s x h =
@@ -45,7 +44,7 @@ run-later s x h =
     let y = x - 136 - 4 in
     let e : y % 140 ≡ x % 140 = omega (arith, h) in
     let d : y / 140 + 1 ≡ x / 140 = omega (arith, h) in
-    rw e (ap₂ (λ (a b : SlotPart). if ltb (x % 140) 136 then a else b) (ap Main (omega (arith, d))) (ap Tmcc (omega (arith, d))))
+    rw e (ap₂ (λ (a b : SlotPart). when ltb (x % 140) 136 then a else b) (ap Main (omega (arith, d))) (ap Tmcc (omega (arith, d))))
 
 pub runs_law : (n : ℕ) (s : Seen) (x : ℕ) → x < 140 * n → part_in (runs n) s x ≡ by_run s x
 unfolding part_in runs indexed seen_run

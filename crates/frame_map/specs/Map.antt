@@ -1,6 +1,6 @@
 -- "Slot map: 24 sync, 32 pilot, then 66 times 136 main and 4 TMCC."
 use Rattle.std.specs.Prelude.{ℕ, zero, suc, ◌+◌, ◌-◌, ◌≤◌, ◌<◌, length, List, [], ◌∷◌, ltb}
-use Rattle.laws.specs.Choice.{if◌then◌else◌}
+use Rattle.laws.specs.Choice.{when◌then◌else◌}
 use Rattle.frame_map.specs.declared.SlotPart.{SlotPart}
 use Rattle.frame_map.specs.declared.SlotPart.TheVariants.{Sync, Pilot, Main, Tmcc, Refused}
 
@@ -59,7 +59,7 @@ indexed tmcc s j = Tmcc (s.tmccs + j)
 -- place j of the fields, each in turn; "slot index over 9,295" gives 6
 unfoldable pub part_in : List Field → Seen → ℕ → SlotPart
 part_in [] s j = Refused 6
-part_in (f ∷ fs) s j = let rest = part_in fs (also_seen s f) (j - f.size) in if ltb j f.size then indexed f.kind s j else rest
+part_in (f ∷ fs) s j = let rest = part_in fs (also_seen s f) (j - f.size) in when ltb j f.size then indexed f.kind s j else rest
 
 unfoldable pub part_of : ℕ → SlotPart
 part_of j = part_in fields none_seen j

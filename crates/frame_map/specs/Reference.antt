@@ -1,6 +1,6 @@
 -- "Sync symbols train against word × 724, negated for NotFsync."
 use Rattle.std.specs.Prelude.{ℕ, ◌+◌, ◌*◌, ◌&&◌, List, ltb, ℤ, pos, neg_ℤ, ◌*ℤ◌, get_or}
-use Rattle.laws.specs.Choice.{if◌then◌else◌}
+use Rattle.laws.specs.Choice.{when◌then◌else◌}
 use Rattle.angles.specs.declared.Symbol.{Symbol}
 use Rattle.sync_corr.specs.Correlate.{ones_of}
 use Rattle.sync_heads.specs.declared.Word.{Word}
@@ -24,4 +24,4 @@ reference_of word k f s =
 
 -- 2, an entry of the two words that is not 1 or -1; 6, "sync index over 23"
 unfoldable pub reference_answer : Word → ℕ → List ℤ → List ℤ → Referred
-reference_answer word k f s = if ones_of f && ones_of s then if ltb k 24 then Given (reference_of word k f s) else Refused 6 else Refused 2
+reference_answer word k f s = when ones_of f && ones_of s then when ltb k 24 then Given (reference_of word k f s) else Refused 6 else Refused 2

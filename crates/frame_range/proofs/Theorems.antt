@@ -10,7 +10,7 @@ use lib.IntN.{ℤ, pos, neg_ℤ, nat_abs, ◌*ℤ◌, +ℤ_idl}
 use lib.ListN.{get_or}
 use mir.Syntax.{w16}
 use mir.Val.{SFits}
-use Rattle.laws.specs.Choice.{if◌then◌else◌}
+use Rattle.laws.specs.Choice.{when◌then◌else◌}
 use Rattle.laws.proofs.Tests.{by_test, and_both, if_both, if_either}
 use Rattle.laws.proofs.Size.{Num, times, less, lit, fits}
 use Rattle.sync_corr.specs.Correlate.{ones_of}
@@ -46,7 +46,7 @@ or_true true = refl
 or_true false = refl
 
 place_kept : (n k : ℕ) (m old : Meta) → meta_in_range n m ≡ true → place_in_range n k old ≡ true → place_in_range (n + 1) k (placed_at n k m old) ≡ true
-unfolding place_in_range placed_at if◌then◌else◌
+unfolding place_in_range placed_at when◌then◌else◌
 place_kept n k m old hm h =
     by_test (eqb n k) (λ t. rw (t, rw (eqb-true n k t) at hm) (or_true (leb (n + 1) k)))
     (λ t.
@@ -188,7 +188,7 @@ joined-before b at k = if_either (λ (x : Back). x.metas.count ≤ at) (gap_at b
     before (At a) h t = omega (arith, h, eqb-true (a + 1) at (not_false (eqb (a + 1) at) t))
 
 taken_coherent : (b : Back) (c : Corrected) (f s : List ℤ) → CoherentBack b → Short c → b.metas.count ≤ c.at → leb c.j 9295 ≡ true → last_in_range (At c.at) ≡ true → TakeOk b c f s → CoherentBack (taken_by b c f s).back
-unfolding taken_by joined moved pushed_eq if◌then◌else◌ is_there up_to
+unfolding taken_by joined moved pushed_eq when◌then◌else◌ is_there up_to
 taken_coherent b c f s k y ha hj hl ok =
     let e = pushed_eq b.eq c.y.i c.y.q in
     let ce : Coherent e = pushed_coherent b.eq c.y.i c.y.q k.eq y.i y.q in
@@ -229,7 +229,7 @@ pushed_coherent_back b c f s k y h =
 
 -- ---- EVERY PUSH KEEPS IT, a refused one too; over any list of pushes with the same words
 pub push_keeps : (b : Back) (c : Corrected) (f s : List ℤ) → CoherentBack b → Short c → CoherentBack (push_answer b c f s).back
-unfolding push_answer if◌then◌else◌
+unfolding push_answer when◌then◌else◌
 push_keeps b c f s k y =
     by_test (eqb (push_refusal b c f s) 0) (λ t. rw t (pushed_coherent_back b c f s k y (eqb-true (push_refusal b c f s) 0 t))) (λ t. rw t k)
 

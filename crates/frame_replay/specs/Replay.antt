@@ -1,6 +1,6 @@
 -- The answers to calls, and what they leave.
 use Rattle.std.specs.Prelude.{ℕ, ◌-◌, List, [], ◌∷◌, ltb, get_or}
-use Rattle.laws.specs.Choice.{if◌then◌else◌}
+use Rattle.laws.specs.Choice.{when◌then◌else◌}
 use Rattle.wire.specs.Wire.{numbers_of, packed_of}
 use Rattle.wire.specs.Blocks.{replayed as replayed_by, left}
 use Rattle.fields.specs.Fields.{at}
@@ -17,7 +17,7 @@ unfoldable pub aligned_of : ℕ → List ℕ → Kept → Turn
 aligned_of n p k = get_or (turns p k) n (plain k 255)
 
 unfoldable pub turn_of : ℕ → List ℕ → Kept → Turn
-turn_of op p k = if ltb op 16 then eq_call op k p else aligned_of (op - 16) p k
+turn_of op p k = when ltb op 16 then eq_call op k p else aligned_of (op - 16) p k
 
 -- ---- calls as bytes
 unfoldable pub answer_bytes : Kept → List ℕ → List ℕ

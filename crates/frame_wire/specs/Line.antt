@@ -1,6 +1,6 @@
 -- What waits in the alignment as the numbers of a call hold it, and as an answer tells it.
 use Rattle.std.specs.Prelude.{ℕ, ◌+◌, List, eqb}
-use Rattle.laws.specs.Choice.{if◌then◌else◌}
+use Rattle.laws.specs.Choice.{when◌then◌else◌}
 use Rattle.frame_line.specs.declared.Meta.{Meta}
 use Rattle.frame_line.specs.declared.Metas.{Metas}
 use Rattle.frame_line.specs.declared.LastAt.{LastAt}
@@ -15,7 +15,7 @@ meta_at p k = record { at = at p k; j = at16 p (k + 5); word = word_of (at p (k 
 
 -- the last position, numbers 2 and 3; how many symbols wait, number 1
 unfoldable pub last_of : List ℕ → LastAt
-last_of p = if eqb (at p 2) 0 then Never else At (at p 3)
+last_of p = when eqb (at p 2) 0 then Never else At (at p 3)
 
 unfoldable pub count_put : Metas → List ℕ → Metas
 count_put w p =

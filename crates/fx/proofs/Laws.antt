@@ -9,7 +9,7 @@ use Rattle.fx.specs.declared.Turn.{Turn}
 use Rattle.laws.proofs.Floor.{floor_twice}
 use Rattle.laws.proofs.Linear.{eq_ud, sum_ud}
 use Rattle.laws.proofs.Tests.{never}
-use Rattle.laws.specs.Choice.{if◌then◌else◌}
+use Rattle.laws.specs.Choice.{when◌then◌else◌}
 
 pub pos_of : (b : ℤ) → lt_z b (pos 1) ≡ false → b ≡ pos (nat_abs b)
 pos_of (pos a) t = refl
@@ -37,9 +37,9 @@ not_outside v e = leb-false (2 ^ 22) (nat_abs v) e
 
 -- a step of the CORDIC, each part chosen by itself
 by_parts : (p : Bool) (x x' y y' : ℤ) (z z' : ℕ) →
-    ◌≡◌ {A = Turn} (record { x = if p then x else x'; y = if not p then y' else y; z = if p then z else z' })
-    (if p then record { x = x; y = y; z = z } else record { x = x'; y = y'; z = z' })
-unfolding if◌then◌else◌
+    ◌≡◌ {A = Turn} (record { x = when p then x else x'; y = when not p then y' else y; z = when p then z else z' })
+    (when p then record { x = x; y = y; z = z } else record { x = x'; y = y'; z = z' })
+unfolding when◌then◌else◌
 by_parts true x x' y y' z z' = refl
 by_parts false x x' y y' z z' = refl
 
@@ -48,9 +48,9 @@ pub step_parts : (t : Turn) (i a : ℕ) →
     let dx = floor_div t.y (2 ^ i) in
     let dy = floor_div t.x (2 ^ i) in
     ◌≡◌ {A = Turn} (record {
-      x = if p then t.x +ℤ dx else t.x -ℤ dx;
-      y = if not p then t.y +ℤ dy else t.y -ℤ dy;
-      z = if p then (t.z + a) % 2 ^ 32 else (t.z + (2 ^ 32 - a)) % 2 ^ 32;
+      x = when p then t.x +ℤ dx else t.x -ℤ dx;
+      y = when not p then t.y +ℤ dy else t.y -ℤ dy;
+      z = when p then (t.z + a) % 2 ^ 32 else (t.z + (2 ^ 32 - a)) % 2 ^ 32;
     }) (cordic_step t i a)
 unfolding cordic_step
 step_parts t i a = by_parts (lt_z (pos 0) t.y) _ _ _ _ _ _

@@ -14,7 +14,7 @@ use Rattle.laws.proofs.Linear.{up, le_ud, test_lt, test_le, ud_le, dn, eq_ud}
 use Rattle.laws.proofs.Size.{above_zero}
 use Rattle.laws.proofs.Tests.{if_either}
 use Rattle.laws.specs.Choice as X
-use Rattle.laws.specs.Choice.{if_no, minus, if◌then◌else◌}
+use Rattle.laws.specs.Choice.{if_no, minus, when◌then◌else◌}
 
 pub floor_theorem : (z : ℤ) (m : ℕ) → 0 < m → IsFloor z m (floor_div z m)
 floor_theorem = floor_is
@@ -56,7 +56,7 @@ pub record Saturates (lo hi v r : ℤ) : Type 0 where
 
 clamped : (lo hi v : ℤ) → lo ≤ℤ hi → Saturates lo hi v (clamp lo hi v)
 clamped lo hi v h =
-    if_either (Saturates lo hi v) (lt_z v lo) lo (if lt_z hi v then hi else v)
+    if_either (Saturates lo hi v) (lt_z v lo) lo (when lt_z hi v then hi else v)
     (λ e. record { low = ≤ℤ_refl lo; high = h; inside = λ p q. eq_ud lo v (omega (arith, ud_le p, test_lt v lo e)) })
     (λ e.
     if_either (Saturates lo hi v) (lt_z hi v) hi v
@@ -88,7 +88,7 @@ pub record Sized (b : ℕ) (r : ℤ) : Type 0 where
   pub twice : size ≤ 2 * b
 
 rounded : (n b : ℕ) → n ≤ 768 * b + 16 → Sized b (round_shift (pos n *ℤ pos 39797) 24)
-unfolding round_shift X.if◌then◌else◌
+unfolding round_shift X.when◌then◌else◌
 rounded n b h = record { size = (n * 39797 + n * 39797 + 2 ^ 24) / 2 ^ 25; is = refl; most = omega arith; twice = omega arith }
 
 pub cordic_theorem : (re im : ℤ) (b : ℕ) → nat_abs re ≤ b → nat_abs im ≤ b → Sized b (cordic_of re im).size

@@ -1,6 +1,6 @@
 -- The CORDIC: document 01, "the 16 steps of `cordic`, its table of 16 angles and 39,797 (a full turn is 2^32)".
 use Rattle.std.specs.Prelude.{ℕ, zero, suc, ◌+◌, ◌-◌, ◌%◌, ◌^◌, List, [], ◌∷◌, ℤ, pos, ◌+ℤ◌, ◌-ℤ◌, ◌*ℤ◌, neg_ℤ, int_lt, slice_index}
-use Rattle.laws.specs.Choice.{if◌then◌else◌}
+use Rattle.laws.specs.Choice.{when◌then◌else◌}
 use Rattle.fx.specs.Fx.{floor_div, round_shift}
 use Rattle.fx.specs.declared.Turn.{Turn}
 use Rattle.fx.specs.declared.Polar.{Polar}
@@ -28,7 +28,7 @@ cordic_angles =
 
 -- (x, y) at angle 0, or turned by half a turn into the right half-plane
 unfoldable pub right_half : ℤ → ℤ → Turn
-right_half x y = if int_lt x (pos 0) then record { x = neg_ℤ x; y = neg_ℤ y; z = 2 ^ 31 } else record { x = x; y = y; z = 0 }
+right_half x y = when int_lt x (pos 0) then record { x = neg_ℤ x; y = neg_ℤ y; z = 2 ^ 31 } else record { x = x; y = y; z = 0 }
 
 -- the start: eight bits up
 unfoldable pub cordic_start : ℤ → ℤ → Turn
@@ -39,7 +39,7 @@ unfoldable pub cordic_step : Turn → ℕ → ℕ → Turn
 cordic_step t i a =
     let dx = floor_div t.y (2 ^ i) in
     let dy = floor_div t.x (2 ^ i) in
-    if int_lt (pos 0) t.y
+    when int_lt (pos 0) t.y
     then record { x = t.x +ℤ dx; y = t.y -ℤ dy; z = (t.z + a) % 2 ^ 32 }
     else record { x = t.x -ℤ dx; y = t.y +ℤ dy; z = (t.z + (2 ^ 32 - a)) % 2 ^ 32 }
 

@@ -1,7 +1,7 @@
 -- Fixed-point arithmetic: document 01, "Arithmetic", first and last item, and the saturations of chain/fx.rs.
 use Rattle.std.specs.Prelude.{ℕ, ◌+◌, ◌-◌, ◌*◌, ◌/◌, ◌%◌, ◌^◌, min, max, List, ℤ, pos, ◌+ℤ◌, ◌-ℤ◌, ◌==◌, int_lt, nat_lt, slice_index_or, unsigned_abs}
 use Rattle.std.specs.Int.Signed.{shr_z}
-use Rattle.laws.specs.Choice.{if◌then◌else◌, minus}
+use Rattle.laws.specs.Choice.{when◌then◌else◌, minus}
 use Rattle.fx.specs.declared.CosSin.{CosSin}
 
 -- the floor of z / m
@@ -14,7 +14,7 @@ half_up a b = floor_div (a +ℤ a +ℤ pos b) (2 * b)
 
 -- "v for s = 0, else the floor of v / 2^s + 1/2"
 unfoldable pub round_shift : ℤ → ℕ → ℤ
-round_shift v s = if s == 0 then v else half_up v (2 ^ s)
+round_shift v s = when s == 0 then v else half_up v (2 ^ s)
 
 -- "floor of a/b + 1/2", for b above 0
 unfoldable pub div_round : ℤ → ℤ → ℤ
@@ -26,7 +26,7 @@ mag_approx re im = max (unsigned_abs re) (unsigned_abs im) + min (unsigned_abs r
 
 -- v brought into lo .. hi
 abbrev pub clamp : ℤ → ℤ → ℤ → ℤ
-clamp lo hi v = if int_lt v lo then lo else if int_lt hi v then hi else v
+clamp lo hi v = when int_lt v lo then lo else when int_lt hi v then hi else v
 
 unfoldable pub sat16_of : ℤ → ℤ
 sat16_of = clamp (minus (2 ^ 15)) (pos (2 ^ 15 - 1))
@@ -40,7 +40,7 @@ sat32_of = clamp (minus (2 ^ 31)) (pos (2 ^ 31 - 1))
 
 -- an angle, of which a full turn is 2^32, as a signed number: half a turn is -2^31
 unfoldable pub signed_angle : ℕ → ℤ
-signed_angle a = if nat_lt a (2 ^ 31) then pos a else pos a -ℤ pos (2 ^ 32)
+signed_angle a = when nat_lt a (2 ^ 31) then pos a else pos a -ℤ pos (2 ^ 32)
 
 -- the entry at or before an angle, and the nearest: "(angle + 2^21) mod 2^32, divided by 2^22"
 unfoldable pub trunc_index : ℕ → ℕ

@@ -1,6 +1,6 @@
 // The CORDIC's steps, the shift into its range, and the carrier table.
 ghost use Rattle.std.specs.Prelude.{◌≡◌, ◌+◌, ◌-◌, ◌%◌, ◌^◌, ◌<◌, ◌≤◌, length, ◌+ℤ◌, ◌-ℤ◌, unsigned_abs};
-ghost use Rattle.laws.specs.Choice.{if◌then◌else◌};
+ghost use Rattle.laws.specs.Choice.{when◌then◌else◌};
 ghost use Rattle.fx.specs.Fx.{cos_sin_at};
 ghost use Rattle.fx.specs.Cordic.{cordic_start, cordic_step, cordic_steps};
 ghost use Rattle.fx.specs.Scale.{under_at, least_shift, cordic_scale};
@@ -33,13 +33,13 @@ fn start(re: i64, im: i64) -> Turn
 // v + d or v - d. A choice of values, not a branch: the sign of y is as good as random.
 fn moved(plus: bool, v: i64, d: i64) -> i64
     requires { (unsigned_abs v ≤ 2 ^ 61) × (unsigned_abs d ≤ 2 ^ 61) }
-    ensures { result ≡ (if plus then v +ℤ d else v -ℤ d) }
+    ensures { result ≡ (when plus then v +ℤ d else v -ℤ d) }
 {
     if plus { v + d } else { v - d }
 }
 
 fn swung(plus: bool, z: u32, a: u32) -> u32
-    ensures { result ≡ (if plus then (z + a) % 2 ^ 32 else (z + (2 ^ 32 - a)) % 2 ^ 32) }
+    ensures { result ≡ (when plus then (z + a) % 2 ^ 32 else (z + (2 ^ 32 - a)) % 2 ^ 32) }
 {
     if plus {
         std::num::wrapping_add_u32(z, a)

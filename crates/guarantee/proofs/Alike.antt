@@ -3,7 +3,7 @@ use Prim.Native.Nat.{ℕ}
 use Rattle.eq.specs.Eq.{loaded_eq, with_sums}
 use Rattle.eq.specs.declared.Equaliser.{Equaliser}
 use Rattle.laws.proofs.Tests.{if_both}
-use Rattle.laws.specs.Choice.{if◌then◌else◌}
+use Rattle.laws.specs.Choice.{when◌then◌else◌}
 use Rattle.receiver.specs.declared.Answer.{Answer}
 use Rattle.receiver.specs.declared.Answered.{Answered}
 use Rattle.receiver.specs.declared.Receiver.{Receiver}
@@ -37,7 +37,7 @@ unfolding stores_fit
 no_fit l e = mid_false (eqb (length l.acc) 9296) (eqb (length l.store) 18592) (leb 44880 (length l.soft)) e
 
 refused-same : (r : Receiver) (x : Input) (l : Lent) → stores_fit l ≡ false → (symbol_answer r x l).receiver ≡ r
-unfolding symbol_answer symbol_refusal if◌then◌else◌
+unfolding symbol_answer symbol_refusal when◌then◌else◌
 refused-same r x l e = rw e
 
 -- ---- one call
@@ -108,7 +108,7 @@ module _ (r : Receiver) (acc : List ℕ) (a b : List ℤ) (g : Agree r.front.pha
       let o : Ended = record { refusal = 0; receiver = with_eq r (with_sums r.back.eq false (empty_sums 0)); ended = true; sums = r.back.eq.sums } in
       let n : Ended = record { refusal = 0; receiver = r; ended = false; sums = empty_sums 0 } in
       let x : Ended = record { refusal = 6; receiver = r; ended = false; sums = empty_sums 0 } in
-      if_both (λ (u : Ended). Held u.receiver) (receiver_in_range r) (if r.back.eq.opened then o else n) x (if_both (λ (u : Ended). Held u.receiver) r.back.eq.opened o n g g) g
+      if_both (λ (u : Ended). Held u.receiver) (receiver_in_range r) (when r.back.eq.opened then o else n) x (if_both (λ (u : Ended). Held u.receiver) r.back.eq.opened o n g g) g
 
   restart-held : (at : ℕ) (m : List ℕ) → Held (restart_answer r at m).receiver
   unfolding restart_answer started

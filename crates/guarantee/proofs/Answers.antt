@@ -11,7 +11,7 @@ use Rattle.guarantee.specs.Demand.{Accumulated, Answers, lent_back, taken_in}
 use Rattle.guarantee.specs.History.{History, Training, count_of, ended_in, frame_of, happens, is_open}
 use Rattle.guarantee.specs.History.{none, since}
 use Rattle.laws.proofs.Tests.{by_test, never}
-use Rattle.laws.specs.Choice.{if◌then◌else◌}
+use Rattle.laws.specs.Choice.{when◌then◌else◌}
 use Rattle.receiver.specs.Answers.{end_answer, restart_acc, restart_refusal}
 use Rattle.receiver.specs.Symbol.{Lent}
 use Rattle.receiver.specs.declared.Ended.{Ended}
@@ -43,7 +43,7 @@ no_sums_told = record { ended = refl; frame = refl; count = refl; no_sums = λ e
 
 module _ (s : System) (h : History) (t : Tied s h) where
   ended_by : (u : Training) → SumsTied u s.receiver.back.eq → SumsTold u (end_answer s.receiver).ended (end_answer s.receiver).sums
-  unfolding is_open frame_of count_of if◌then◌else◌
+  unfolding is_open frame_of count_of when◌then◌else◌
   ended_by none o = rw (end-answer s h t, o) no_sums_told
   ended_by (since frame m) o = rw (end-answer s h t, o.0) (record { ended = refl; frame = o.2; count = o.1; no_sums = λ e. absurd (never e) })
 
@@ -58,7 +58,7 @@ module _ (s : System) (h : History) (t : Tied s h) where
 
   -- ---- accumulators
   gives-lent : (c : Call) → (told_by s c).lent ≡ lent_back c (told_by s c).acc
-  unfolding told_by plain lent_to handed_acc kept_acc restart_acc restart_refusal if◌then◌else◌
+  unfolding told_by plain lent_to handed_acc kept_acc restart_acc restart_refusal when◌then◌else◌
   gives-lent (symbol x own b soft) = refl
   gives-lent (symbol x (wrong acc e) b soft) = ap (λ (l : Lent). l.acc) (wrong-lent s h t x (wrong acc e) b soft (wrong_any acc e b))
   gives-lent (points bits ps k) = refl
@@ -77,7 +77,7 @@ module _ (s : System) (h : History) (t : Tied s h) where
   own-acc ends = refl
   own-acc (restarts at a) = refl
 
-taken_is : (base : ℕ) (i c : ℕ) → taken_in i c ≡ (if ltb i (c % 9296) then suc (c / 9296) else c / 9296)
+taken_is : (base : ℕ) (i c : ℕ) → taken_in i c ≡ (when ltb i (c % 9296) then suc (c / 9296) else c / 9296)
 unfolding taken_in
 taken_is base i c = let e : c / 9296 + 1 ≡ suc (c / 9296) = omega arith in rw e
 

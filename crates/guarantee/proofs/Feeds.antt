@@ -7,7 +7,7 @@ use Rattle.guarantee.proofs.Follow.{own_wrong, wrong_any}
 use Rattle.guarantee.proofs.Refusals.{wrong_fit}
 use Rattle.guarantee.specs.Feeds.{Feed, FeedClaim, FeedIs, Silent, after_feed, call_at, calls_from, fed_by, told_feed, told_nothing}
 use Rattle.laws.proofs.Tests.{by_test, if_both, if_either, neither, never}
-use Rattle.laws.specs.Choice.{if_no, if_yes, if◌then◌else◌}
+use Rattle.laws.specs.Choice.{if_no, if_yes, when◌then◌else◌}
 use Rattle.frame.specs.declared.AlignedSymbol.{AlignedSymbol}
 use Rattle.receiver.specs.Answers.{no_runs, symbol_answer, symbol_lent, symbol_refusal}
 use Rattle.receiver.specs.Feed.{Block, Fed, any_event, fed_from, feed_of, feed_refusal, input_at, quiet_at, standing_refusal, symbols_of, tells_any}
@@ -331,7 +331,7 @@ module _ (b : Block) (soft : List ℤ) where
       let told : Fed = one s i in
       let on = fed_from b k (i + 1) a.receiver (leaves s i) in
       let quiet = quiet_at i s.receiver (lent_of s) in
-      if_either (FedIs s i (suc k)) (eqb a.refusal 0) (if tells_any a then told else on) quiet
+      if_either (FedIs s i (suc k)) (eqb a.refusal 0) (when tells_any a then told else on) quiet
       (λ e.
       let z = eqb-true a.refusal 0 e in
       if_either (FedIs s i (suc k)) (tells_any a) told on (λ t. one-fed s i k z) (λ t. goes_on_lem s i k z t w))
@@ -388,11 +388,11 @@ module _ (s : System) (d : Feed) (z : (own_acc d.accumulators && own_store d.slo
   given = lent_to s d.accumulators d.slots d.soft
 
   stands-1 : standing_refusal s.receiver d.block given ≡ 1
-  unfolding standing_refusal if◌then◌else◌
+  unfolding standing_refusal when◌then◌else◌
   stands-1 = rw (wrong_fit s d.accumulators d.slots d.soft z)
 
   symbol-1 : (symbol_answer s.receiver (input_at d.block 0) given).refusal ≡ 1
-  unfolding symbol_answer symbol_refusal if◌then◌else◌
+  unfolding symbol_answer symbol_refusal when◌then◌else◌
   symbol-1 = rw (wrong_fit s d.accumulators d.slots d.soft z)
 
   feed-1 : feed_refusal s.receiver d.block given ≡ 1
@@ -404,7 +404,7 @@ module _ (s : System) (d : Feed) (z : (own_acc d.accumulators && own_store d.slo
   refused-1 = feed-1
 
   wrong-fed : fed_by s d ≡ quiet_at 0 s.receiver given
-  unfolding feed_of if◌then◌else◌
+  unfolding feed_of when◌then◌else◌
   wrong-fed = rw feed-1
 
   same-acc : (u : Accumulators) → kept_acc s u (handed_acc s u) ≡ s.acc

@@ -10,7 +10,7 @@ use Rattle.guarantee.specs.History.{own_acc, own_store}
 use Rattle.guarantee.specs.Items.{Item, ItemTold, after_item, told_item, told_items}
 use Rattle.guarantee.specs.Items.{call, feed, called, fed}
 use Rattle.laws.proofs.Tests.{by_test}
-use Rattle.laws.specs.Choice.{if◌then◌else◌}
+use Rattle.laws.specs.Choice.{when◌then◌else◌}
 use Rattle.receiver.specs.Answers.{stores_fit, symbol_answer, symbol_lent}
 use Rattle.receiver.specs.Feed.{Block, Fed, fed_from, feed_of, feed_refusal, input_at, quiet_at, standing_refusal, symbols_of, tells_any}
 use Rattle.receiver.specs.Symbol.{Lent}
@@ -51,13 +51,13 @@ quiet_alike i r l m w = record { used = refl; receiver = refl; events = refl; ru
 -- a symbol of a feed, by its answer and what it leaves
 abbrev step_fed : Block → ℕ → ℕ → Receiver → Lent → Answer → Lent → Fed
 step_fed b k i r l a m =
-    if eqb a.refusal 0
-    then if tells_any a then record { used = i + 1; receiver = a.receiver; lent = m; events = a.events; runs = a.runs } else fed_from b k (i + 1) a.receiver m
+    when eqb a.refusal 0
+    then when tells_any a then record { used = i + 1; receiver = a.receiver; lent = m; events = a.events; runs = a.runs } else fed_from b k (i + 1) a.receiver m
     else quiet_at i r l
 
 step_alike : (b : Block) (k i : ℕ) (r : Receiver) (l l' : Lent) (a : Answer) (m m' : Lent) → LentAlike r l l' → LentAlike a.receiver m m' →
     FedAlike (fed_from b k (i + 1) a.receiver m) (fed_from b k (i + 1) a.receiver m') → FedAlike (step_fed b k i r l a m) (step_fed b k i r l' a m')
-unfolding if◌then◌else◌
+unfolding when◌then◌else◌
 step_alike b k i r l l' a m m' w v on =
     by_test (eqb a.refusal 0)
     (λ e.
@@ -101,14 +101,14 @@ unfolding stores_fit
 fit_alike r l m w = rw (w.acc, w.soft, w.stores.first, w.stores.second)
 
 refusal_alike : (b : Block) (r : Receiver) (l m : Lent) → LentAlike r l m → feed_refusal r b l ≡ feed_refusal r b m
-unfolding feed_refusal standing_refusal if◌then◌else◌
+unfolding feed_refusal standing_refusal when◌then◌else◌
 refusal_alike b r l m w =
     let x = input_at b 0 in
     let e = (alike r x l.acc l.soft l.store m.store w.stores).answer ∙ ap (symbol_answer r x) (lent_is l m w.acc w.soft) in
     by_test (eqb (symbols_of b) 0) (λ t. rw (t, fit_alike r l m w)) (λ t. rw t (ap (λ (a : Answer). a.refusal) e))
 
 feed_alike : (b : Block) (r : Receiver) (l m : Lent) → LentAlike r l m → FedAlike (feed_of r b l) (feed_of r b m)
-unfolding feed_of if◌then◌else◌
+unfolding feed_of when◌then◌else◌
 feed_alike b r l m w =
     let e = refusal_alike b r l m w in
     let n = feed_refusal r b l in

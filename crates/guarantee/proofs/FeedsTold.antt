@@ -13,7 +13,7 @@ use Rattle.guarantee.specs.Feeds.{Feed, FeedTold, call_at, fed_by, feed_refusal_
 use Rattle.guarantee.specs.History.{History, events_in, happens, own_acc, own_store, refusal_in, runs_in, runs_with}
 use Rattle.guarantee.specs.Items.{FeedFits}
 use Rattle.laws.proofs.Tests.{by_test}
-use Rattle.laws.specs.Choice.{if_no, if_yes, if◌then◌else◌}
+use Rattle.laws.specs.Choice.{if_no, if_yes, when◌then◌else◌}
 use Rattle.receiver.specs.Answers.{no_runs, symbol_answer, symbol_lent}
 use Rattle.receiver.specs.Feed.{Block, Fed, any_event, fed_from, feed_of, feed_refusal, input_at, quiet_at, standing_refusal, symbols_of, tells_any}
 use Rattle.receiver.specs.Ranges.{receiver_in_range}
@@ -99,7 +99,7 @@ module _ (b : Block) (soft : List ℤ) where
   used-more : (k i : ℕ) (s : System) (h : History) → Tied s h → InputFits (input_at b i) →
       (fed_from b k (i + 1) (after_call s (call_at d i)).receiver (lent_of (after_call s (call_at d i)))).used ≡ used_from d k (i + 1) (happens h (call_at d i)) →
       (fed_from b (suc k) i s.receiver (lent_of s)).used ≡ used_from d (suc k) i h
-  unfolding fed_from used_from quiet_at call_at if◌then◌else◌
+  unfolding fed_from used_from quiet_at call_at when◌then◌else◌
   used-more k i s h t f on =
       let a = answer s i in
       let r = refusal_is s h t i f in
@@ -129,7 +129,7 @@ module _ (b : Block) (soft : List ℤ) where
   first-asked n s e = if_no (eqb (symbols_of b) 0) _ _ (ne_eqb (symbols_of b) 0 (λ z. omega (arith, z, e)))
 
   stops_first : (n : ℕ) (s : System) → eqb (answer s 0).refusal 0 ≡ false → 0 ≡ (fed_from b (suc n) 0 s.receiver (lent_of s)).used
-  unfolding fed_from quiet_at if◌then◌else◌
+  unfolding fed_from quiet_at when◌then◌else◌
   stops_first n s r = rw r
 
   quiet-used : (n : ℕ) (s : System) → symbols_of b ≡ n → eqb (feed_refusal s.receiver b (lent_of s)) 0 ≡ false → 0 ≡ (fed_from b n 0 s.receiver (lent_of s)).used
@@ -138,7 +138,7 @@ module _ (b : Block) (soft : List ℤ) where
   quiet-used (suc n) s e r = stops_first n s (sym (ap (λ (v : ℕ). eqb v 0) (first-asked n s e)) ∙ r)
 
   used-anyway : (n : ℕ) (s : System) → symbols_of b ≡ n → (feed_of s.receiver b (lent_of s)).used ≡ (fed_from b n 0 s.receiver (lent_of s)).used
-  unfolding feed_of quiet_at if◌then◌else◌
+  unfolding feed_of quiet_at when◌then◌else◌
   used-anyway n s e =
       by_test (eqb (feed_refusal s.receiver b (lent_of s)) 0)
       (λ r. rw (r, e))
@@ -157,11 +157,11 @@ module _ (b : Block) (soft : List ℤ) where
   own-used s h t f = feed-used s h t f
 
   standing-is : (s : System) (h : History) → Tied s h → eqb (symbols_of b) 0 ≡ true → feed_refusal s.receiver b (lent_of s) ≡ feed_refusal_in h d
-  unfolding feed_refusal standing_refusal feed_refusal_in if◌then◌else◌ own_acc own_store
+  unfolding feed_refusal standing_refusal feed_refusal_in when◌then◌else◌ own_acc own_store
   standing-is s h t z = rw (z, own-fit s h t (input_at b 0) soft, in_range s.receiver t.coherent)
 
   first-is : (s : System) (h : History) → Tied s h → InputFits (input_at b 0) → eqb (symbols_of b) 0 ≡ false → feed_refusal s.receiver b (lent_of s) ≡ feed_refusal_in h d
-  unfolding feed_refusal feed_refusal_in if◌then◌else◌ call_at
+  unfolding feed_refusal feed_refusal_in when◌then◌else◌ call_at
   first-is s h t f z = rw z (refusal_is s h t 0 f)
 
   own-refused : (s : System) (h : History) → Tied s h → FeedFits d → (told_feed s d).refusal ≡ feed_refusal_in h d
@@ -179,11 +179,11 @@ module _ (s : System) (h : History) (t : Tied s h) (d : Feed) (z : (own_acc d.ac
   symbol-1 i = says-1 s h t (input_at d.block i) d.accumulators d.slots d.soft z
 
   says-feed-1 : feed_refusal_in h d ≡ 1
-  unfolding feed_refusal_in if◌then◌else◌
+  unfolding feed_refusal_in when◌then◌else◌
   says-feed-1 = by_test (eqb (symbols_of d.block) 0) (λ e. rw (e, z)) (λ e. rw e (symbol-1 0))
 
   none-used : (n : ℕ) → used_from d n 0 h ≡ 0
-  unfolding used_from if◌then◌else◌
+  unfolding used_from when◌then◌else◌
   none-used zero = refl
   none-used (suc n) = rw (symbol-1 0)
 

@@ -7,7 +7,7 @@ use Rattle.guarantee.specs.Calls.{Accumulators, Call, InputFits, SlotStore, Syst
 use Rattle.guarantee.specs.Calls.{symbol, own, wrong}
 use Rattle.guarantee.specs.History.{History, accepts, events_in, events_with, happens, own_acc, own_store, refusal_in, takes}
 use Rattle.laws.proofs.Tests.{by_test}
-use Rattle.laws.specs.Choice.{if_no, if_yes, if◌then◌else◌}
+use Rattle.laws.specs.Choice.{if_no, if_yes, when◌then◌else◌}
 use Rattle.receiver.specs.declared.Answer.{Answer}
 use Rattle.receiver.specs.declared.Receiver.{Receiver}
 use Rattle.receiver.specs.Answers.{no_runs, symbol_answer, symbol_lent, symbol_refusal}
@@ -128,19 +128,19 @@ module _ (s : System) (h : History) (t : Tied s h) (x : Input) (a : Accumulators
   lent = lent_to s a b soft
 
   gives-1 : symbol_refusal s.receiver x lent ≡ 1
-  unfolding symbol_refusal if◌then◌else◌
+  unfolding symbol_refusal when◌then◌else◌
   gives-1 = rw (wrong_fit s a b soft z)
 
   pub says-1 : refusal_in h (symbol x a b soft) ≡ 1
-  unfolding refusal_in if◌then◌else◌
+  unfolding refusal_in when◌then◌else◌
   says-1 = rw z
 
   wrong_answer : symbol_answer s.receiver x lent ≡ record { refusal = 1; receiver = s.receiver; events = no_events; runs = no_runs }
-  unfolding symbol_answer if◌then◌else◌
+  unfolding symbol_answer when◌then◌else◌
   wrong_answer = rw gives-1
 
   pub wrong-lent : symbol_lent s.receiver x lent ≡ lent
-  unfolding symbol_lent if◌then◌else◌
+  unfolding symbol_lent when◌then◌else◌
   wrong-lent = rw gives-1
 
   kept-own : (u : Accumulators) → kept_acc s u (handed_acc s u) ≡ s.acc
@@ -160,7 +160,7 @@ module _ (s : System) (h : History) (t : Tied s h) (x : Input) (a : Accumulators
       ∙ ap₂ (λ (u : List ℕ) (v : List ℤ). record { receiver = s.receiver; acc = u; store = v }) (kept-own a) (kept_slot b)
 
   wrong-happens : happens h (symbol x a b soft) ≡ h
-  unfolding happens if◌then◌else◌
+  unfolding happens when◌then◌else◌
   wrong-happens = rw says-1
 
   told-1 : (told_by s (symbol x a b soft)).refusal ≡ refusal_in h (symbol x a b soft)

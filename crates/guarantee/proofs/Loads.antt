@@ -12,7 +12,7 @@ use Rattle.guarantee.specs.Calls.{points, taps, opens, ends, restarts, own, wron
 use Rattle.guarantee.specs.History.{History, Training, accepts, begins_with, events_in, happens, kept_in, next_in, own_acc, refusal_in}
 use Rattle.guarantee.specs.History.{none, since}
 use Rattle.laws.proofs.Tests.{by_test, if_cong, never}
-use Rattle.laws.specs.Choice.{if_no, if_yes, if◌then◌else◌}
+use Rattle.laws.specs.Choice.{if_no, if_yes, when◌then◌else◌}
 use Rattle.receiver.specs.declared.Answered.{Answered}
 use Rattle.receiver.specs.declared.Ended.{Ended}
 use Rattle.receiver.specs.declared.Kept.{Kept as KeptValues}
@@ -56,7 +56,7 @@ module _ (s : System) (h : History) (t : Tied s h) (bits : ℕ) (ps : List ℤ) 
   kept n = record { refusal = n; receiver = r }
 
   points_fit_lem : eqb (refusal_in h c) 0 ≡ true → PointsFit (loaded_points bits ps k)
-  unfolding refusal_in if◌then◌else◌
+  unfolding refusal_in when◌then◌else◌
   points_fit_lem e =
       by_test (bad_points bits (length ps)) (λ a. absurd (no-4 a e))
       (λ a. by_test (bad_scale k) (λ b. absurd (no-5 a b e)) (λ b. loaded_points_fit bits ps k a b))
@@ -160,13 +160,13 @@ module _ (s : System) (h : History) (t : Tied s h) where
       }
 
   pub taps-steps : (ts : List ℤ) (frame : ℕ) → Steps s h (taps ts frame)
-  unfolding told_by plain events_in after_call happens taps_answer refusal_in if◌then◌else◌
+  unfolding told_by plain events_in after_call happens taps_answer refusal_in when◌then◌else◌
   taps-steps ts frame =
       let e = loaded_eq r₀.back.eq ts frame in
       record { refusal = ap (λ (a : Answered). a.refusal) (eq-answer e); events = refl; tied = rw (eq-answer e) (taps-tied ts frame) }
 
   pub open-steps : (frame : ℕ) → Steps s h (opens frame)
-  unfolding told_by plain events_in after_call happens open_answer refusal_in if◌then◌else◌
+  unfolding told_by plain events_in after_call happens open_answer refusal_in when◌then◌else◌
   open-steps frame =
       let e = with_sums r₀.back.eq true (empty_sums frame) in
       record { refusal = ap (λ (a : Answered). a.refusal) (eq-answer e); events = refl; tied = rw (eq-answer e) (open-tied frame) }
@@ -178,7 +178,7 @@ module _ (s : System) (h : History) (t : Tied s h) where
   abbrev without : Ended
   without = record { refusal = 0; receiver = r₀; ended = false; sums = empty_sums 0 }
 
-  pub end-answer : end_answer r₀ ≡ (if r₀.back.eq.opened then with-sums else without)
+  pub end-answer : end_answer r₀ ≡ (when r₀.back.eq.opened then with-sums else without)
   unfolding end_answer
   end-answer = if_yes (receiver_in_range r₀) _ (record { refusal = 6; receiver = r₀; ended = false; sums = empty_sums 0 }) (in_range r₀ t.coherent)
 
@@ -217,7 +217,7 @@ module _ (s : System) (h : History) (t : Tied s h) where
       }
 
   pub end-steps : Steps s h ends
-  unfolding told_by events_in after_call happens refusal_in if◌then◌else◌
+  unfolding told_by events_in after_call happens refusal_in when◌then◌else◌
   end-steps =
       by_test r₀.back.eq.opened
       (λ o.
@@ -240,8 +240,8 @@ module _ (s : System) (h : History) (t : Tied s h) where
     restart-refusal =
         if_yes (eqb (length s.acc) 9296) _ 1 (eq-eqb (length s.acc) 9296 (acc-long s h t))
         ∙ if_yes (receiver_in_range r₀) _ 6 (in_range r₀ t.coherent)
-        ∙ ap (λ (n : ℕ). if ltb at n then 7 else 0) (next-is s h t)
-        ∙ sym (if_yes true (if ltb at (next_in h) then 7 else 0) 1 refl)
+        ∙ ap (λ (n : ℕ). when ltb at n then 7 else 0) (next-is s h t)
+        ∙ sym (if_yes true (when ltb at (next_in h) then 7 else 0) 1 refl)
 
     restart-tied : Tied (record { receiver = started at (kept_of r₀); acc = replicate (length s.acc) 0; store = s.store }) (accepts h (restarts at own))
     unfolding accepts
@@ -283,5 +283,5 @@ module _ (s : System) (h : History) (t : Tied s h) where
 
     -- with accumulators that give 1
     pub wrong-restart : (acc : List ℕ) (e : eqb (length acc) 9296 ≡ false) → Steps s h (restarts at (wrong acc e))
-    unfolding told_by events_in after_call happens handed_acc kept_acc restart_answer restart_acc restart_refusal refusal_in own_acc if◌then◌else◌
+    unfolding told_by events_in after_call happens handed_acc kept_acc restart_answer restart_acc restart_refusal refusal_in own_acc when◌then◌else◌
     wrong-restart acc e = record { refusal = rw e; events = refl; tied = rw e t }

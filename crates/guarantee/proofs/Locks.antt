@@ -10,7 +10,7 @@ use Rattle.guarantee.specs.Demand.{Among, IsPeriod, LockTold, Relocks, stretch_w
 use Rattle.guarantee.specs.Demand.{in-first, in-second, in-third}
 use Rattle.guarantee.specs.History.{History, accepts, begins_with, ends_stretch, events_in, events_with, goes_on, happens, kept_in, kept_over, loses_by, loses_with, next_in, push_of, refusal_in, takes, with_symbol}
 use Rattle.laws.proofs.Tests.{and_both, by_test, if_both, neither, never}
-use Rattle.laws.specs.Choice.{if_no, if_yes, if◌then◌else◌}
+use Rattle.laws.specs.Choice.{if_no, if_yes, when◌then◌else◌}
 use Rattle.sync_heads.specs.declared.Headed.{Headed}
 use Rattle.sync_heads.specs.declared.Headed.TheVariants.{Nothing as NoHead, One as OneHead}
 use Rattle.sync_heads.specs.declared.Record.{Record}
@@ -143,7 +143,7 @@ then_only k q e =
     let d : Events = record { first = es.first; second = es.second; third = e } in
     let fa = head-none k.first q in
     let fb = head-none k.second q in
-    if_both (λ (u : Events). Among (IsPeriod q) u → IsPeriod q e) (is_nothing es.first) a (if is_nothing es.second then b else d)
+    if_both (λ (u : Events). Among (IsPeriod q) u → IsPeriod q e) (is_nothing es.first) a (when is_nothing es.second then b else d)
     (only_first es.second q e fb a refl refl refl)
     (if_both (λ (u : Events). Among (IsPeriod q) u → IsPeriod q e) (is_nothing es.second) b d (only_second es.first q e fa b refl refl refl)
     (only_third es.first es.second q e fa fb d refl refl refl))
@@ -154,19 +154,19 @@ module _ (base : ℕ) (last : Record) (h : List Push) where
 
   -- where nothing is lost, it is that of the period that ends
   told-end : (c : ℕ) → (taken c).lost ≡ false → ends_at 9296 base last h c ≡ true → period_loses 9296 base last h c ≡ false → told_at 9296 base last h c ≡ then_of (heads_of (taken c)) (Period (stats_at 9296 base last h c))
-  unfolding told_at if◌then◌else◌ taken_at
+  unfolding told_at when◌then◌else◌ taken_at
   told-end c t d p = rw (t, d, p)
 
   told-inside : (c : ℕ) → (taken c).lost ≡ false → ends_at 9296 base last h c ≡ false → told_at 9296 base last h c ≡ heads_of (taken c)
-  unfolding told_at if◌then◌else◌ taken_at
+  unfolding told_at when◌then◌else◌ taken_at
   told-inside c t d = rw (t, d)
 
   taken-kept : (c : ℕ) → loses_at 9296 base last h c ≡ false → (taken c).lost ≡ false
-  unfolding loses_at if◌then◌else◌ taken_at
+  unfolding loses_at when◌then◌else◌ taken_at
   taken-kept c e = by_test (taken c).lost (λ t. absurd (never (sym (rw t) ∙ e))) (λ t. t)
 
   ends-kept : (c : ℕ) → loses_at 9296 base last h c ≡ false → ends_at 9296 base last h c ≡ true → period_loses 9296 base last h c ≡ false
-  unfolding loses_at if◌then◌else◌ taken_at
+  unfolding loses_at when◌then◌else◌ taken_at
   ends-kept c e d =
       by_test (period_loses 9296 base last h c) (λ p. absurd (never (sym (rw (taken-kept c e, d, p)) ∙ e))) (λ p. p)
 

@@ -14,7 +14,7 @@ use Rattle.guarantee.specs.Demand.{Among, LostAt, Losses, kept_after}
 use Rattle.guarantee.specs.Demand.{in-first, in-second, in-third}
 use Rattle.guarantee.specs.History.{History, events_in, events_with, kept_over, loses_by, loses_with, next_in, own_acc, own_store, refusal_in, with_symbol}
 use Rattle.laws.proofs.Tests.{and_both, by_test, neither, never}
-use Rattle.laws.specs.Choice.{if_no, if_yes, if◌then◌else◌}
+use Rattle.laws.specs.Choice.{if_no, if_yes, when◌then◌else◌}
 use Rattle.receiver.specs.declared.Kept.{Kept}
 use Rattle.receiver.specs.Answers.{symbol_refusal}
 use Rattle.receiver.specs.Heads.{is_lost, loses_in}
@@ -104,7 +104,7 @@ module _ (s : System) (h : History) (t : Tied s h) (x : Input) (soft : List ℤ)
 
 -- a refused symbol loses nothing
 pub wrong_loses : (h : History) (x : Input) (a : Accumulators) (b : SlotStore) (soft : List ℤ) → (own_acc a && own_store b) ≡ false → loses_by h (symbol x a b soft) ≡ false
-unfolding loses_by refusal_in if◌then◌else◌
+unfolding loses_by refusal_in when◌then◌else◌
 wrong_loses h x a b soft e = rw e
 
 -- ---- after a loss

@@ -1,7 +1,7 @@
 -- A loss is told exactly where the pushes have one, with the position of the next symbol. Assumes nothing.
 use Prim.Native.Nat.{ℕ, ◌+◌, ◌-◌}
 use Rattle.laws.proofs.Tests.{by_test, if_both, never}
-use Rattle.laws.specs.Choice.{if◌then◌else◌}
+use Rattle.laws.specs.Choice.{when◌then◌else◌}
 use Rattle.sync_heads.specs.declared.Headed.{Headed}
 use Rattle.sync_heads.specs.declared.Headed.TheVariants.{Nothing as NoHead, One as OneHead}
 use Rattle.sync_heads.specs.declared.Record.{Record}
@@ -44,7 +44,7 @@ then_quiet es e k q =
     let a : Events = record { first = e; second = es.second; third = Nothing } in
     let b : Events = record { first = es.first; second = e; third = Nothing } in
     let d : Events = record { first = es.first; second = es.second; third = e } in
-    if_both (λ (u : Events). loses_in u ≡ false) (is_nothing es.first) a (if is_nothing es.second then b else d)
+    if_both (λ (u : Events). loses_in u ≡ false) (is_nothing es.first) a (when is_nothing es.second then b else d)
     (rw (k, q.second))
     (if_both (λ (u : Events). loses_in u ≡ false) (is_nothing es.second) b d (rw (q.first, k)) (rw (q.first, q.second, k)))
 
@@ -95,13 +95,13 @@ then_tells at es q =
     let a : Events = record { first = Lost at; second = es.second; third = Nothing } in
     let b : Events = record { first = es.first; second = Lost at; third = Nothing } in
     let d : Events = record { first = es.first; second = es.second; third = Lost at } in
-    if_both (Tells at) (is_nothing es.first) a (if is_nothing es.second then b else d)
+    if_both (Tells at) (is_nothing es.first) a (when is_nothing es.second then b else d)
     (lost_first at es.second Nothing q.second refl)
     (if_both (Tells at) (is_nothing es.second) b d (lost_second at es.first Nothing q.first refl) (lost_third at es.first es.second q.first q.second))
 
 -- a period of zeros behind the loss: there is room, as no second head was told
 pub period_tells : (at : ℕ) (es : Events) (p : SyncStats) → Quiet es → es.second ≡ Nothing → Tells at (then_of (then_of es (Lost at)) (Period p))
-unfolding then_of is_nothing is_lost if◌then◌else◌
+unfolding then_of is_nothing is_lost when◌then◌else◌
 period_tells at es p q e =
     by_test (is_nothing es.first)
     (λ t. rw (t, e) (lost_first at (Period p) Nothing refl refl))
@@ -120,7 +120,7 @@ module _ (n base : ℕ) (last : Record) (h : List Push) where
 
   -- ---- what the symbol that completes position c tells of a loss
   pub lost-told : (c : ℕ) → At c (told_at n base last h c)
-  unfolding told_at loses_at if◌then◌else◌
+  unfolding told_at loses_at when◌then◌else◌
   lost-told c =
       let hs = heads_at n base last h c in
       let q = quiet-at-heads c in
@@ -143,6 +143,6 @@ module _ (n base : ℕ) (last : Record) (h : List Push) where
   unfolding loses_in is_lost no_events
   early-none = refl
 
-  pub tells-loses : (m : ℕ) → loses_in (tells n base last h m) ≡ (if ltb m 23 then false else loses_at n base last h (m - 23))
-  unfolding tells if◌then◌else◌
+  pub tells-loses : (m : ℕ) → loses_in (tells n base last h m) ≡ (when ltb m 23 then false else loses_at n base last h (m - 23))
+  unfolding tells when◌then◌else◌
   tells-loses m = by_test (ltb m 23) (λ t. rw t early-none) (λ t. rw t (lost-told (m - 23)).0)

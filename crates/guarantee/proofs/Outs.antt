@@ -14,7 +14,7 @@ use Rattle.guarantee.specs.Calls.{symbol, points, taps, opens, ends, restarts, o
 use Rattle.guarantee.specs.Demand.{NoSoft, SlotTold}
 use Rattle.guarantee.specs.History.{History, events_in, events_with, refusal_in, run_in, runs_in, runs_with, slot_at}
 use Rattle.laws.proofs.Tests.{by_test, never}
-use Rattle.laws.specs.Choice.{if_no, if_yes, if◌then◌else◌}
+use Rattle.laws.specs.Choice.{if_no, if_yes, when◌then◌else◌}
 use Rattle.phase.specs.declared.Due.TheVariants.{Nothing as NoSlot, Slot}
 use Rattle.phase.specs.declared.WholeSlot.{WholeSlot}
 use Rattle.receiver.specs.Answers.{no_runs, symbol_refusal}
@@ -52,11 +52,11 @@ run_is u p q r s = λ i. record { at = p i; j = q i; count = r i; bits = s i }
 
 -- a slot that adjoins, or the first, finds the alignment as it is
 pub no_gap_first : (b : Back) (at : ℕ) → Untouched b → joined_to b at ≡ b
-unfolding joined_to gap_at if◌then◌else◌
+unfolding joined_to gap_at when◌then◌else◌
 no_gap_first b at u = rw u.last
 
 pub no_gap_next : (b : Back) (at : ℕ) → Adjoins at b → joined_to b at ≡ b
-unfolding joined_to gap_at if◌then◌else◌
+unfolding joined_to gap_at when◌then◌else◌
 no_gap_next b at a = rw (a.last, eq-eqb (a.before + 1) at a.next)
 
 module _ (r : Receiver) (x : Input) (l : Lent) (c : CoherentReceiver r) (w : WholeSlot) (e : (heads 9296 r x l).due ≡ Slot w) where
@@ -91,12 +91,12 @@ module _ (r : Receiver) (x : Input) (l : Lent) (c : CoherentReceiver r) (w : Who
       run_is _ (b.at_is ∙ omega (arith, q, u.first.at_is)) (b.j_is ∙ omega (arith, u.first.j)) n b.bits_are
 
   tail-run : (k : ℕ) → Slots k r.front.phase r.back → 1 ≤ k → begins-at →
-      (runs 9296 r x l).tail ≡ (if eqb k 1 then no_run else record { at = next_of r - 23 - 9296 - 5; j = 9291; count = 5; bits = r.points.bits })
-  unfolding if◌then◌else◌
+      (runs 9296 r x l).tail ≡ (when eqb k 1 then no_run else record { at = next_of r - 23 - 9296 - 5; j = 9291; count = 5; bits = r.points.bits })
+  unfolding when◌then◌else◌
   tail-run k s z q = go (due_is r x l c w e).back
     where
       go : Untouched r.back ⊎ Adjoins w.head.at r.back →
-          (runs 9296 r x l).tail ≡ (if eqb k 1 then no_run else record { at = next_of r - 23 - 9296 - 5; j = 9291; count = 5; bits = r.points.bits })
+          (runs 9296 r x l).tail ≡ (when eqb k 1 then no_run else record { at = next_of r - 23 - 9296 - 5; j = 9291; count = 5; bits = r.points.bits })
       go (inl u) =
           by_test (eqb k 1) (λ t. rw t (first_run u))
           (λ t. absurd (omega (arith, s.full_line (omega (arith, z, eqb-false k 1 t)), u.empty)))
@@ -127,7 +127,7 @@ module _ (s : System) (h : History) (t : Tied s h) (x : Input) (soft : List ℤ)
       let n = next-is s h t in
       own_runs z
       ∙ ap₂ (λ (u v : AlignedRun). record { tail = u; body = v }) w b
-      ∙ ap₂ (λ (i : ℕ) (q : Points). record { tail = if eqb (told_in h) 1 then no_run else record { at = i - 23 - 9296 - 5; j = 9291; count = 5; bits = q.bits }; body = record { at = i - 23 - 9296; j = 0; count = 9291; bits = q.bits } }) n t.points
+      ∙ ap₂ (λ (i : ℕ) (q : Points). record { tail = when eqb (told_in h) 1 then no_run else record { at = i - 23 - 9296 - 5; j = 9291; count = 5; bits = q.bits }; body = record { at = i - 23 - 9296; j = 0; count = 9291; bits = q.bits } }) n t.points
       ∙ sym (if_no (eqb (told_in h) 0) no_runs _ (ne_eqb (told_in h) 0 (λ e. omega (arith, e, k))))
 
   -- nothing without a head, nor with the first of the stretch

@@ -1,7 +1,7 @@
 -- What happened in a stretch stands as more symbols come: until one loses, the first m pushes of h ++ e tell what those of h tell. Assumes nothing.
 use Prim.Native.Nat.{ℕ, zero, suc, ◌+◌, ◌-◌, ◌<◌, ◌≤◌}
 use Rattle.laws.proofs.Tests.{by_test}
-use Rattle.laws.specs.Choice.{if_no, if◌then◌else◌}
+use Rattle.laws.specs.Choice.{if_no, when◌then◌else◌}
 use Rattle.sync_heads.specs.declared.Record.{Record}
 use Rattle.sync_step.specs.declared.Step.{Step}
 use Rattle.sync_step.specs.declared.Events.{Events}
@@ -73,7 +73,7 @@ told_prefix base last h e zero l k = refl
 told_prefix base last h e (suc m) l k =
     let g = told_prefix base last h e m (omega arith) (λ i b. k i (omega arith)) in
     let t = tells-prefix 9296 base last h e (lit≤ tt) m l (λ i b. k i (omega arith)) in
-    ap (λ (v : ℕ). v + (if any_head (tells 9296 base last (h ++ e) m) then 1 else 0)) g ∙ ap (λ (es : Events). told_to base last h m + (if any_head es then 1 else 0)) t
+    ap (λ (v : ℕ). v + (when any_head (tells 9296 base last (h ++ e) m) then 1 else 0)) g ∙ ap (λ (es : Events). told_to base last h m + (when any_head es then 1 else 0)) t
 
 -- ---- sizes stand too, so a stretch that meets the premise has met it at each of its calls
 both_prefix : (h e : List Push) (c : ℕ) → c + 23 < length h → both_at (h ++ e) c ≡ both_at h c

@@ -12,7 +12,7 @@ use Rattle.guarantee.specs.Calls.{symbol, points, taps, opens, ends, restarts, o
 use Rattle.guarantee.specs.Demand.{BeforeLock, NoSoft, stretch_with}
 use Rattle.guarantee.specs.History.{History, events_in, events_with, push_of, refusal_in, with_symbol}
 use Rattle.laws.proofs.Tests.{by_test, never}
-use Rattle.laws.specs.Choice.{if_no, if_yes, if◌then◌else◌}
+use Rattle.laws.specs.Choice.{if_no, if_yes, when◌then◌else◌}
 use Rattle.receiver.specs.declared.Answer.{Answer}
 use Rattle.receiver.specs.declared.Receiver.{Receiver}
 use Rattle.receiver.specs.Answers.{no_runs, symbol_answer, symbol_lent, symbol_refusal}
@@ -53,11 +53,11 @@ module _ (s : System) (x : Input) (a : Accumulators) (b : SlotStore) (soft : Lis
   r = s.receiver
 
   pub refused_none : eqb (symbol_refusal r x l) 0 ≡ false → NoSoft (symbol x a b soft) (told_by s (symbol x a b soft))
-  unfolding told_by symbol_answer symbol_lent if◌then◌else◌ lent_to
+  unfolding told_by symbol_answer symbol_lent when◌then◌else◌ lent_to
   refused_none e = record { runs = rw e; soft = rw e }
 
   told-zero : eqb (symbol_refusal r x l) 0 ≡ true → (told_by s (symbol x a b soft)).refusal ≡ 0
-  unfolding told_by symbol_answer if◌then◌else◌
+  unfolding told_by symbol_answer when◌then◌else◌
   told-zero e = rw e
 
 pub none-refused : (s : System) (h : History) (t : Tied s h) (c : Call) → CallFits c → (refusal_in h c ≡ 0 → ⊥) → NoSoft c (told_by s c)

@@ -8,7 +8,7 @@ use Rattle.guarantee.specs.Calls.{symbol, own, wrong}
 use Rattle.guarantee.specs.History.{History, Training, full_by, next_in, own_acc, own_store, refusal_in, trainings_with}
 use Rattle.guarantee.specs.History.{none, since}
 use Rattle.laws.proofs.Tests.{and_both, if_cong, never}
-use Rattle.laws.specs.Choice.{if_yes, if◌then◌else◌}
+use Rattle.laws.specs.Choice.{if_yes, when◌then◌else◌}
 use Rattle.receiver.specs.declared.Receiver.{Receiver}
 use Rattle.receiver.specs.Answers.{stores_fit, symbol_refusal}
 use Rattle.receiver.specs.Ranges.{receiver_in_range}
@@ -67,7 +67,7 @@ module _ (s : System) (h : History) (t : Tied s h) (x : Input) (soft : List ℤ)
   own-refusal =
       let ones = ones_of x.f && ones_of x.s in
       let long = eqb (length x.table) 1024 in
-      ap (λ (v : Bool). if v then if ones then if long then if receiver_in_range r then if past 9296 r x l then 7 else if full 9296 r x l then 8 else 0 else 6 else 3 else 2 else 1) own-fit
+      ap (λ (v : Bool). when v then when ones then when long then when receiver_in_range r then when past 9296 r x l then 7 else when full 9296 r x l then 8 else 0 else 6 else 3 else 2 else 1) own-fit
       ∙ if_cong (true && true && leb 44880 (length soft)) _ 1 _ 1
       (λ a.
       if_cong ones _ 2 _ 2
@@ -76,7 +76,7 @@ module _ (s : System) (h : History) (t : Tied s h) (x : Input) (soft : List ℤ)
       if_cong long _ 3 _ 3
       (λ u.
       if_yes (receiver_in_range r) _ 6 (in_range r t.coherent)
-      ∙ ap₂ (λ (p q : Bool). if p then 7 else if q then 8 else 0) past_by (full_is b.0 b.1))
+      ∙ ap₂ (λ (p q : Bool). when p then 7 else when q then 8 else 0) past_by (full_is b.0 b.1))
       (λ u. refl))
       (λ o. refl))
       (λ a. refl)

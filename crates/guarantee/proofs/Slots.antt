@@ -4,7 +4,7 @@ use Rattle.frame.specs.declared.Back.{Back}
 use Rattle.frame.specs.Stretch.{after_all}
 use Rattle.guarantee.proofs.Heads.{head-heard, none-heard}
 use Rattle.laws.proofs.Tests.{by_test, never}
-use Rattle.laws.specs.Choice.{if_yes, if◌then◌else◌}
+use Rattle.laws.specs.Choice.{if_yes, when◌then◌else◌}
 use Rattle.phase.specs.declared.Due.TheVariants.{Nothing as NoSlot, Slot}
 use Rattle.phase.specs.declared.Held.{Held}
 use Rattle.phase.specs.declared.SlotPhase.{SlotPhase}
@@ -48,7 +48,7 @@ pub record Slots (k : ℕ) (p : SlotPhase) (b : Back) : Type 0 where
 
 -- the trainings of one that tells a head, or does not
 unfoldable pub trainings_by : ℕ → Bool → ℕ
-trainings_by k a = if a then if eqb k 0 then 0 else if eqb k 1 then 19 else 24 else 0
+trainings_by k a = when a then when eqb k 0 then 0 else when eqb k 1 then 19 else 24 else 0
 
 -- what they come to: refused (8) exactly if there is no room for all
 pub record Sums (r : Receiver) (x : Input) (l : Lent) (n : ℕ) : Type 0 where
@@ -58,8 +58,8 @@ pub record Sums (r : Receiver) (x : Input) (l : Lent) (n : ℕ) : Type 0 where
   pub closed : r.back.eq.opened ≡ false → full 9296 r x l ≡ false
 
 -- ---- the phase after the symbol
-pushed_held : (p : SlotPhase) (t : Bool) → is_held (if t then pushed_in 9296 p else p) ≡ is_held p
-unfolding pushed_in if◌then◌else◌ is_held
+pushed_held : (p : SlotPhase) (t : Bool) → is_held (when t then pushed_in 9296 p else p) ≡ is_held p
+unfolding pushed_in when◌then◌else◌ is_held
 pushed_held Idle true = refl
 pushed_held Idle false = refl
 pushed_held (Holds x) true = refl
@@ -120,11 +120,11 @@ module _ (r : Receiver) (x : Input) (l : Lent) (c : CoherentReceiver r) where
       (ap (λ (u : Listened). u.phase) k, ap (λ (u : Listened). u.due) k)
 
   quiet-sums : (k : ℕ) → any_head es ≡ false → Sums r x l (trainings_by k (any_head es))
-  unfolding trainings_by if◌then◌else◌
+  unfolding trainings_by when◌then◌else◌
   quiet-sums k e = rw e (no_sums (none-heads e).1)
 
-  quiet-slots : (k : ℕ) → any_head es ≡ false → Slots k r.front.phase r.back → Slots (k + (if any_head es then 1 else 0)) (left 9296 r x l).front.phase (left 9296 r x l).back
-  unfolding if◌then◌else◌
+  quiet-slots : (k : ℕ) → any_head es ≡ false → Slots k r.front.phase r.back → Slots (k + (when any_head es then 1 else 0)) (left 9296 r x l).front.phase (left 9296 r x l).back
+  unfolding when◌then◌else◌
   quiet-slots k e s =
       let n = none-heads e in
       let b = same_back (none-due r x l c n.1).0 in
@@ -190,8 +190,8 @@ module _ (r : Receiver) (x : Input) (l : Lent) (c : CoherentReceiver r) where
   module _ (hf : ones_of x.f ≡ true) (hs : ones_of x.s ≡ true) (k : ℕ) (s : Slots k r.front.phase r.back) (a : any_head es ≡ true) (t : Locked) where
     trains-now : (w : WholeSlot) → 1 ≤ k →
         (Untouched r.back × Trains 19 r.back (slot 9296 r x l) x.f x.s) ⊎ (Adjoins w.head.at r.back × Trains 24 r.back (slot 9296 r x l) x.f x.s) →
-        Trains (if eqb k 0 then 0 else if eqb k 1 then 19 else 24) r.back (slot 9296 r x l) x.f x.s
-    unfolding if◌then◌else◌
+        Trains (when eqb k 0 then 0 else when eqb k 1 then 19 else 24) r.back (slot 9296 r x l) x.f x.s
+    unfolding when◌then◌else◌
     trains-now w z (inl (u, v)) =
         by_test (eqb k 1) (λ i. let e : k ≡ 1 = eqb-true k 1 i in rw e v)
         (λ i. absurd (omega (arith, s.full_line (omega (arith, z, eqb-false k 1 i)), u.empty)))
@@ -200,17 +200,17 @@ module _ (r : Receiver) (x : Input) (l : Lent) (c : CoherentReceiver r) where
         (λ i. rw (ne_eqb k 0 (λ e. omega (arith, e, z)), i) v)
 
     head-sums : Sums r x l (trainings_by k (any_head es))
-    unfolding trainings_by if◌then◌else◌
+    unfolding trainings_by when◌then◌else◌
     head-sums =
         by_test (eqb k 0)
         (λ i. rw (a, i) (no_sums (first-due a (s.idle (eqb-true k 0 i)))))
         (λ i.
         let z : 1 ≤ k = omega (arith, eqb-false k 0 i) in
         let d = later-due a t (s.held z) in
-        rw a (slot-sums hf hs d.0 d.1 (if eqb k 0 then 0 else if eqb k 1 then 19 else 24) (trains-now d.0 z (symbol-trains r x l c hf hs d.0 d.1))))
+        rw a (slot-sums hf hs d.0 d.1 (when eqb k 0 then 0 else when eqb k 1 then 19 else 24) (trains-now d.0 z (symbol-trains r x l c hf hs d.0 d.1))))
 
-    head-slots : Slots (k + (if any_head es then 1 else 0)) (left 9296 r x l).front.phase (left 9296 r x l).back
-    unfolding if◌then◌else◌
+    head-slots : Slots (k + (when any_head es then 1 else 0)) (left 9296 r x l).front.phase (left 9296 r x l).back
+    unfolding when◌then◌else◌
     head-slots =
         rw a
         (record {
@@ -228,5 +228,5 @@ module _ (r : Receiver) (x : Input) (l : Lent) (c : CoherentReceiver r) where
     pub symbol-sums : Sums r x l (trainings_by k (any_head es))
     symbol-sums = by_test (any_head es) (λ a. head-sums hf hs k s a (t a)) (λ a. quiet-sums k a)
 
-    pub symbol-slots : Slots (k + (if any_head es then 1 else 0)) (left 9296 r x l).front.phase (left 9296 r x l).back
+    pub symbol-slots : Slots (k + (when any_head es then 1 else 0)) (left 9296 r x l).front.phase (left 9296 r x l).back
     symbol-slots = by_test (any_head es) (λ a. head-slots hf hs k s a (t a)) (λ a. quiet-slots k a s)

@@ -15,7 +15,7 @@ use Rattle.guarantee.specs.Calls.{System, begins}
 use Rattle.guarantee.specs.History.{History, Training, begins_with, events_with, goes_on, kept_over, loses_with, next_in, push_of, takes, told_to, trained_by, trainings_with, with_symbol}
 use Rattle.guarantee.specs.History.{none, since}
 use Rattle.laws.proofs.Tests.{by_test, if_both}
-use Rattle.laws.specs.Choice.{if_no, if_yes, if◌then◌else◌}
+use Rattle.laws.specs.Choice.{if_no, if_yes, when◌then◌else◌}
 use Rattle.phase_range.proofs.Theorems.{length_stored}
 use Rattle.receiver.specs.declared.Kept.{Kept as KeptValues}
 use Rattle.receiver.specs.declared.Receiver.{Receiver}
@@ -123,12 +123,12 @@ module _ (s : System) (h : History) (t : Tied s h) (x : Input) (soft : List ℤ)
           subst (Kept 9296 h.base h.last (with_symbol h x)) (sym long-now) (step_kept h.base h.last h.pushes (push_of h x) t.kept (not_lost s h t x soft e))
 
       -- one more told a head, or not
-      told-now : told_to h.base h.last (with_symbol h x) (length (with_symbol h x)) ≡ told_in h + (if any_head (synced 9296 r x l).events then 1 else 0)
+      told-now : told_to h.base h.last (with_symbol h x) (length (with_symbol h x)) ≡ told_in h + (when any_head (synced 9296 r x l).events then 1 else 0)
       unfolding with_symbol told_to events_with
       told-now =
           ap (told_to h.base h.last (with_symbol h x)) long-now
-          ∙ ap (λ (v : ℕ). v + (if any_head (events_with h x) then 1 else 0)) (told_prefix h.base h.last h.pushes _ m (omega arith) t.kept)
-          ∙ ap (λ (es : Events). told_in h + (if any_head es then 1 else 0)) (sym (events-are s h t x soft))
+          ∙ ap (λ (v : ℕ). v + (when any_head (events_with h x) then 1 else 0)) (told_prefix h.base h.last h.pushes _ m (omega arith) t.kept)
+          ∙ ap (λ (es : Events). told_in h + (when any_head es then 1 else 0)) (sym (events-are s h t x soft))
 
       slots-now : Slots (told_to h.base h.last (with_symbol h x) (length (with_symbol h x))) (left 9296 r x l).front.phase (left 9296 r x l).back
       slots-now =
@@ -192,7 +192,7 @@ module _ (s : System) (h : History) (t : Tied s h) (x : Input) (soft : List ℤ)
           let q = lost 9296 r x l in
           let k = kept_of (left 9296 r x l) in
           let y = started (next_of r + 1) k in
-          let i : (if q then y else left 9296 r x l) ≡ started (next_in h + 1) (kept_over h x) =
+          let i : (when q then y else left 9296 r x l) ≡ started (next_in h + 1) (kept_over h x) =
           if_yes q y (left 9296 r x l) (lost-is s h t x soft ∙ e) ∙ ap₂ (λ (n : ℕ) (v : KeptValues). started (n + 1) v) (next-is s h t) kept-are in
           ap₂ (λ (v : Receiver) (u : List ℕ). record { receiver = v; acc = u; store = store_after 9296 r x l }) i zeros-are
 

@@ -19,7 +19,7 @@ use Rattle.carrier.specs.Carrier.{advanced_nco, rotated_of}
 use Rattle.sync_step.specs.declared.Step.{Step}
 use lib.IntN.{ℤ}
 use Rattle.laws.proofs.Tests.{and_both, by_test, never}
-use Rattle.laws.specs.Choice.{if◌then◌else◌}
+use Rattle.laws.specs.Choice.{when◌then◌else◌}
 use Rattle.sync_step.specs.declared.Events.{Events}
 use Rattle.sync_tie.specs.Claims.{any_head}
 use Rattle.sync_tie.proofs.Story as fold
@@ -71,8 +71,8 @@ module _ (s : System) (h : History) (t : Tied s h) where
   pub acc-long : length s.acc ≡ 9296
   acc-long = ap (λ (x : Held). length x.acc) t.held ∙ (where-now h.base h.last h.pushes no_push t.kept).2
 
-pub late_test : (m : ℕ) (b : Bool) → (if ltb m 23 then false else b) ≡ (leb 23 m && b)
-unfolding if◌then◌else◌
+pub late_test : (m : ℕ) (b : Bool) → (when ltb m 23 then false else b) ≡ (leb 23 m && b)
+unfolding when◌then◌else◌
 late_test m b = by_test (ltb m 23) (λ t. rw (t, lt-leb 23 m (ltb-true m 23 t))) (λ t. rw (t, le-leb 23 m (ltb-false m 23 t)))
 
 -- ---- AN ACCEPTED SYMBOL

@@ -1,7 +1,7 @@
 -- DEMAND 3. For every list of a receiver's calls from a new one on, and for every loss in it. docs/GUARANTEE.md has it sentence by sentence beside
 -- the order and document 01.
 use Rattle.std.specs.Prelude.{ℕ, suc, ◌+◌, ◌-◌, ◌*◌, ◌/◌, ◌%◌, ◌≤◌, ◌<◌, true, false, List, [], ◌∷◌, ◌++◌, ◌⊎◌, ◌≡◌, eqb, ltb, ℤ, pos, length, get_or, replicate}
-use Rattle.laws.specs.Choice.{if◌then◌else◌}
+use Rattle.laws.specs.Choice.{when◌then◌else◌}
 use Rattle.laws.specs.Ranges.{firsts}
 use Rattle.sync_lock.specs.declared.Lock.{Lock}
 use Rattle.sync_step.specs.declared.Event.{Event}
@@ -75,7 +75,7 @@ places_of r = firsts (λ (i : ℕ). record { at = r.at + i; j = r.j + i }) r.cou
 
 -- the accumulators of a stretch, each from 0: that of place i has taken in, period by period, the sizes of those positions at i whose windows are complete
 unfoldable pub taken_in : ℕ → ℕ → ℕ
-taken_in i positions = if ltb i (positions % 9296) then positions / 9296 + 1 else positions / 9296
+taken_in i positions = when ltb i (positions % 9296) then positions / 9296 + 1 else positions / 9296
 
 pub record Accumulated (ps : List Push) (acc : List ℕ) : Type 0 where
   pub long : length acc ≡ 9296
@@ -94,7 +94,7 @@ lent_back (restarts at (wrong given e)) acc = given
 
 -- ---- the stretch that a call belongs to: its accepted symbols, this one too
 unfoldable pub stretch_with : History → Call → List Push
-stretch_with h (symbol x a b soft) = if eqb (refusal_in h (symbol x a b soft)) 0 then with_symbol h x else h.pushes
+stretch_with h (symbol x a b soft) = when eqb (refusal_in h (symbol x a b soft)) 0 then with_symbol h x else h.pushes
 stretch_with h (points bits ps k) = h.pushes
 stretch_with h (taps ts frame) = h.pushes
 stretch_with h (opens frame) = h.pushes

@@ -1,6 +1,6 @@
 -- A feed is its symbols: so demand 3 covers lists with feeds.
 use Rattle.std.specs.Prelude.{ℕ, zero, suc, ◌+◌, ◌≤◌, ◌<◌, false, ◌&&◌, List, [], ◌∷◌, ◌≡◌, eqb, leb, ℤ, length}
-use Rattle.laws.specs.Choice.{if◌then◌else◌}
+use Rattle.laws.specs.Choice.{when◌then◌else◌}
 use Rattle.sums.specs.Sums.{empty_sums}
 use Rattle.sync_corr.specs.Correlate.{ones_of}
 use Rattle.sync_step.specs.Events.{no_events}
@@ -92,9 +92,9 @@ FeedClaim = (s : System) (d : Feed) → FeedIs s d
 -- the refusal: with no symbol by what the feed is given, else as its first symbol's
 unfoldable pub feed_refusal_in : History → Feed → ℕ
 feed_refusal_in h d =
-    if eqb (symbols_of d.block) 0
-    then if own_acc d.accumulators && own_store d.slots && leb 44880 (length d.soft)
-    then if ones_of d.block.f && ones_of d.block.s then if eqb (length d.block.table) 1024 then 0 else 3 else 2
+    when eqb (symbols_of d.block) 0
+    then when own_acc d.accumulators && own_store d.slots && leb 44880 (length d.soft)
+    then when ones_of d.block.f && ones_of d.block.s then when eqb (length d.block.table) 1024 then 0 else 3 else 2
     else 1
     else refusal_in h (call_at d 0)
 
@@ -103,7 +103,7 @@ unfoldable pub used_from : Feed → ℕ → ℕ → History → ℕ
 used_from d zero i h = i
 used_from d (suc k) i h =
     let c = call_at d i in
-    if eqb (refusal_in h c) 0 then if any_event (events_in h c) then i + 1 else used_from d k (i + 1) (happens h c) else i
+    when eqb (refusal_in h c) 0 then when any_event (events_in h c) then i + 1 else used_from d k (i + 1) (happens h c) else i
 
 pub record FeedTold (h : History) (s : System) (d : Feed) : Type 0 where
   pub refusal : (told_feed s d).refusal ≡ feed_refusal_in h d

@@ -1,7 +1,7 @@
 -- What happened, from the calls alone: types of a receiver's state stand here, but no receiver's state. A history is that of the stretch that runs: since
 -- the new receiver, the last loss or the last accepted restart.
 use Rattle.std.specs.Prelude.{ℕ, zero, suc, ◌+◌, ◌-◌, ◌^◌, Bool, true, false, not, ◌&&◌, List, [], ◌∷◌, ◌++◌, eqb, leb, ltb, ℤ, length}
-use Rattle.laws.specs.Choice.{if◌then◌else◌}
+use Rattle.laws.specs.Choice.{when◌then◌else◌}
 use Rattle.sync_corr.specs.Correlate.{ones_of}
 use Rattle.sync_heads.specs.declared.Record.{Record}
 use Rattle.sync_step.specs.declared.Event.{Event}
@@ -99,14 +99,14 @@ carrier_with h x = heard_events (advanced_nco h.carrier) (events_with h x)
 -- of m symbols of a stretch, those that told a head
 unfoldable pub told_to : ℕ → Record → List Push → ℕ → ℕ
 told_to base last ps zero = 0
-told_to base last ps (suc m) = told_to base last ps m + (if any_head (tells 9296 base last ps m) then 1 else 0)
+told_to base last ps (suc m) = told_to base last ps m + (when any_head (tells 9296 base last ps m) then 1 else 0)
 
 -- the trainings of a symbol: a head after another completes a slot of 9,296. The first slot of a stretch trains on sync symbols 5 to 23, as the line holds
 -- 11 symbols from symbol 5 on; each later one on all 24
 unfoldable pub trainings_with : History → Input → ℕ
 trainings_with h x =
     let k = told_to h.base h.last h.pushes (length h.pushes) in
-    if any_head (events_with h x) then if eqb k 0 then 0 else if eqb k 1 then 19 else 24 else 0
+    when any_head (events_with h x) then when eqb k 0 then 0 else when eqb k 1 then 19 else 24 else 0
 
 unfoldable pub trained_by : Training → ℕ → Training
 trained_by none k = none
@@ -157,7 +157,7 @@ kept_over h x =
     }
 
 unfoldable pub takes : History → Input → History
-takes h x = if loses_with h x then begins_with (next_in h + 1) (kept_over h x) else goes_on h x
+takes h x = when loses_with h x then begins_with (next_in h + 1) (kept_over h x) else goes_on h x
 
 -- ---- every call
 -- 1, "stores that give 1"; a soft buffer under 44,880
@@ -172,18 +172,18 @@ own_store (wrong store e) = false
 -- the refusal: by what the call is given, by the position of its symbol and by the count of trainings. A receiver's own numbers are never out of range
 unfoldable pub refusal_in : History → Call → ℕ
 refusal_in h (symbol x a b soft) =
-    if own_acc a && own_store b && leb 44880 (length soft)
-    then if ones_of x.f && ones_of x.s
-    then if eqb (length x.table) 1024
-    then if leb (2 ^ 62) (next_in h) then 7 else if full_by h.sums (trainings_with h x) then 8 else 0
+    when own_acc a && own_store b && leb 44880 (length soft)
+    then when ones_of x.f && ones_of x.s
+    then when eqb (length x.table) 1024
+    then when leb (2 ^ 62) (next_in h) then 7 else when full_by h.sums (trainings_with h x) then 8 else 0
     else 3
     else 2
     else 1
-refusal_in h (points bits ps k) = if bad_points bits (length ps) then 4 else if bad_scale k then 5 else 0
+refusal_in h (points bits ps k) = when bad_points bits (length ps) then 4 else when bad_scale k then 5 else 0
 refusal_in h (taps ts frame) = 0
 refusal_in h (opens frame) = 0
 refusal_in h ends = 0
-refusal_in h (restarts at a) = if own_acc a then if ltb at (next_in h) then 7 else 0 else 1
+refusal_in h (restarts at a) = when own_acc a then when ltb at (next_in h) then 7 else 0 else 1
 
 -- what an accepted call makes of the history
 unfoldable pub accepts : History → Call → History
@@ -200,7 +200,7 @@ accepts h (restarts at a) = begins_with at (kept_in h)
 
 -- refused calls change nothing
 unfoldable pub happens : History → Call → History
-happens h c = if eqb (refusal_in h c) 0 then accepts h c else h
+happens h c = when eqb (refusal_in h c) 0 then accepts h c else h
 
 unfoldable pub happen_all : History → List Call → History
 happen_all h [] = h
@@ -226,7 +226,7 @@ ends_stretch h (restarts at a) = eqb (refusal_in h (restarts at a)) 0
 
 -- the events of a call: an accepted symbol's
 unfoldable pub events_in : History → Call → Events
-events_in h (symbol x a b soft) = if eqb (refusal_in h (symbol x a b soft)) 0 then events_with h x else no_events
+events_in h (symbol x a b soft) = when eqb (refusal_in h (symbol x a b soft)) 0 then events_with h x else no_events
 events_in h (points bits ps k) = no_events
 events_in h (taps ts frame) = no_events
 events_in h (opens frame) = no_events
@@ -245,11 +245,11 @@ run_in h at j count = record { at = at; j = j; count = count; bits = h.points.bi
 unfoldable pub runs_with : History → Runs
 runs_with h =
     let k = told_to h.base h.last h.pushes (length h.pushes) in
-    let tail = if eqb k 1 then no_run else run_in h (slot_at h - 5) 9291 5 in
-    if eqb k 0 then no_runs else record { tail = tail; body = run_in h (slot_at h) 0 9291 }
+    let tail = when eqb k 1 then no_run else run_in h (slot_at h - 5) 9291 5 in
+    when eqb k 0 then no_runs else record { tail = tail; body = run_in h (slot_at h) 0 9291 }
 
 unfoldable pub runs_in : History → Call → Runs
-runs_in h c = if any_head (events_in h c) then runs_with h else no_runs
+runs_in h c = when any_head (events_in h c) then runs_with h else no_runs
 
 -- ---- the sums that a call gives back: an end's, if they were open
 unfoldable pub ended_in : History → Call → Training

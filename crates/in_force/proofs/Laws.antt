@@ -12,7 +12,7 @@ use lib.ListN.{length, get_or, take, drop}
 use lib.Signed.{le_z}
 use Rattle.demap.proofs.Blocks.{part_long}
 use Rattle.laws.proofs.Tests.{and_both, by_test, if_both, neither, never}
-use Rattle.laws.specs.Choice.{if◌then◌else◌, if_yes, if_no, minus}
+use Rattle.laws.specs.Choice.{when◌then◌else◌, if_yes, if_no, minus}
 use Rattle.learn.proofs.Laws.{between, no_0, yes_0, not_false, good-bits, labels_few, learn_ok}
 use Rattle.learn.specs.Learning.{learned_slice}
 use Rattle.learn.specs.Ranges.{learn_in_range, LearnOk}
@@ -33,7 +33,7 @@ slices_step l n learned = rw (add-one n)
 
 -- ---- the part that is chosen, of n labels
 pub chosen : (learned nominal : List ℤ) (flags : List Bool) (bits n : ℕ) (xs : List ℤ) → n ≡ 2 ^ bits →
-    sets_refusal (length learned) (length nominal) bits ≡ 0 → (if get_or flags (bits - 1) false then learned else nominal) ≡ xs →
+    sets_refusal (length learned) (length nominal) bits ≡ 0 → (when get_or flags (bits - 1) false then learned else nominal) ≡ xs →
     take (2 * n) (drop (2 * (n - 2)) xs) ≡ points_in_force learned nominal flags bits
 unfolding points_in_force set_of
 chosen learned nominal flags bits n xs k z e = rw (k, ← e) (sym (if_yes _ _ _ (eq-eqb (sets_refusal (length learned) (length nominal) bits) 0 z)))
@@ -102,7 +102,7 @@ pub refused_empty : (learned nominal : List ℤ) (flags : List Bool) (bits : ℕ
 unfolding points_in_force empty_refusal
 refused_empty learned nominal flags bits =
     let n = sets_refusal (length learned) (length nominal) bits in
-    let part : List ℤ = set_of bits (if get_or flags (bits - 1) false then learned else nominal) in
+    let part : List ℤ = set_of bits (when get_or flags (bits - 1) false then learned else nominal) in
     by_test (eqb n 0)
     (λ t.
     let z = eqb-true n 0 t in

@@ -1,7 +1,7 @@
 -- What a frame is demapped with, and what its successor is: `InForce` of chain/demap.rs.
 use Rattle.std.specs.Prelude.{ℕ, zero, suc, ◌+◌, ◌^◌, Bool, false, ◌&&◌, List, eqb, ℤ, pos, replicate}
 use Rattle.std.specs.Int.Signed.{le_z}
-use Rattle.laws.specs.Choice.{if◌then◌else◌, minus}
+use Rattle.laws.specs.Choice.{when◌then◌else◌, minus}
 use Rattle.laws.specs.Ranges.{firsts}
 use Rattle.demap.specs.Demap.{scale_of}
 use Rattle.learn.specs.declared.Learn.{Learn}
@@ -24,7 +24,7 @@ slices_learned l (suc n) learned = learned_slice l (suc n) (slices_learned l n l
 
 -- the noise figure: the mean of the samples, or the old one if there is none
 unfoldable pub noise_after : Learn → ℤ → ℤ
-noise_after l old = if eqb l.samples 0 then old else mean_noise l
+noise_after l old = when eqb l.samples 0 then old else mean_noise l
 
 -- what frame number `frame` gives the next
 unfoldable pub renewed_of : InForce → Learn → ℕ → InForce

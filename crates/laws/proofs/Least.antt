@@ -1,7 +1,7 @@
 -- The least value of a range: how large it is, that it is the greatest lower bound, and that it is attained. Assumes nothing.
 use Rattle.std.proofs.Common.{◌≡◌, ℕ, zero, suc, ◌+◌, ◌<◌, ◌≤◌, Bool, true, false, ℤ, nat_abs, ◌≤ℤ◌, refl, ⊎_elim, le_refl, le_of_suc-le-suc, not-suc-le-zero, eq-or-lt_of_le, add-one, arith}
 use lib.Signed.{lt_z, ≤ℤ_refl}
-use Rattle.laws.specs.Choice.{if◌then◌else◌, if_yes, if_no}
+use Rattle.laws.specs.Choice.{when◌then◌else◌, if_yes, if_no}
 use Rattle.laws.specs.Ranges.{min_z, least_of}
 use Rattle.laws.proofs.Tests.{if_both, if_either}
 use Rattle.laws.proofs.Linear.{le_ud, test_lt, test_le, ≤ℤ_trans}
@@ -44,7 +44,7 @@ unfolding least_of
 least_ext p f g s zero h = refl
 least_ext p f g s (suc n) h = rw (least_ext p f g s n (λ l k. h l (omega arith)), h n (le_refl (suc n)))
 
-step_le : (t : Bool) (r x : ℤ) → (if t then min_z r x else r) ≤ℤ r
+step_le : (t : Bool) (r x : ℤ) → (when t then min_z r x else r) ≤ℤ r
 step_le t r x = if_both (λ (z : ℤ). z ≤ℤ r) t (min_z r x) r (min_le r x).0 (≤ℤ_refl r)
 
 pub least_le : (p : ℕ → Bool) (f : ℕ → ℤ) (s : ℤ) (n l : ℕ) → l < n → p l ≡ true → least_of p f s n ≤ℤ f l

@@ -1,7 +1,7 @@
 -- Tests and choices. Assumes nothing.
 use Rattle.std.proofs.Common.{◌≡◌, ℕ, ◌<◌, ◌≤◌, Bool, true, false, ◌&&◌, ◌||◌, ltb, leb, sym, refl, arith, ltb-false, le-ltb, lt-ltb, le-leb}
 use borrow.Author.Tests.{lt-leb}
-use Rattle.laws.specs.Choice.{if◌then◌else◌}
+use Rattle.laws.specs.Choice.{when◌then◌else◌}
 
 pub never : true ≡ false → ⊥
 never e = omega (arith, ltb-false 0 1 e)
@@ -12,26 +12,26 @@ by_test true f g = f refl
 by_test false f g = g refl
 
 -- what holds of both holds of the one that is chosen
-pub if_both : {A : Type 0} (P : A → Type 0) (t : Bool) (a b : A) → P a → P b → P (if t then a else b)
-unfolding if◌then◌else◌
+pub if_both : {A : Type 0} (P : A → Type 0) (t : Bool) (a b : A) → P a → P b → P (when t then a else b)
+unfolding when◌then◌else◌
 if_both P true a b p q = p
 if_both P false a b p q = q
 
 -- what holds of either where the test chooses it holds of the one that is chosen
-pub if_either : {A : Type 0} (P : A → Type 0) (t : Bool) (a b : A) → (t ≡ true → P a) → (t ≡ false → P b) → P (if t then a else b)
-unfolding if◌then◌else◌
+pub if_either : {A : Type 0} (P : A → Type 0) (t : Bool) (a b : A) → (t ≡ true → P a) → (t ≡ false → P b) → P (when t then a else b)
+unfolding when◌then◌else◌
 if_either P true a b p q = p refl
 if_either P false a b p q = q refl
 
 -- a function of the chosen one
-pub if_ap : {A B : Type 0} (f : A → B) (t : Bool) (a b : A) → f (if t then a else b) ≡ (if t then f a else f b)
-unfolding if◌then◌else◌
+pub if_ap : {A B : Type 0} (f : A → B) (t : Bool) (a b : A) → f (when t then a else b) ≡ (when t then f a else f b)
+unfolding when◌then◌else◌
 if_ap f true a b = refl
 if_ap f false a b = refl
 
 -- a choice from equals
-pub if_cong : {A : Type 0} (t : Bool) (a b x y : A) → (t ≡ true → a ≡ x) → (t ≡ false → b ≡ y) → (if t then a else b) ≡ (if t then x else y)
-unfolding if◌then◌else◌
+pub if_cong : {A : Type 0} (t : Bool) (a b x y : A) → (t ≡ true → a ≡ x) → (t ≡ false → b ≡ y) → (when t then a else b) ≡ (when t then x else y)
+unfolding when◌then◌else◌
 if_cong true a b x y p q = p refl
 if_cong false a b x y p q = q refl
 

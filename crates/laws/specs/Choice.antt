@@ -3,18 +3,18 @@ use Rattle.std.specs.Prelude.{◌≡◌, ℕ, Bool, true, false, ℤ, pos, neg_�
 use Rattle.std.proofs.Common.{lt-ltb, le-ltb, le-leb, eq-eqb, ne_eqb}
 use Rattle.std.proofs.lemmas.Bool.{lt-leb}
 
-infixr 5 if◌then◌else◌
+infixr 5 when◌then◌else◌
 -- the first where the test holds, else the second; shut, so that a goal keeps its tests
-unfoldable pub if◌then◌else◌ : {A : Type 0} → Bool → A → A → A
-if◌then◌else◌ true a b = a
-if◌then◌else◌ false a b = b
+unfoldable pub when◌then◌else◌ : {A : Type 0} → Bool → A → A → A
+when◌then◌else◌ true a b = a
+when◌then◌else◌ false a b = b
 
-pub if_yes : {A : Type 0} (t : Bool) (a b : A) → t ≡ true → (if t then a else b) ≡ a
-unfolding if◌then◌else◌
+pub if_yes : {A : Type 0} (t : Bool) (a b : A) → t ≡ true → (when t then a else b) ≡ a
+unfolding when◌then◌else◌
 if_yes t a b e = rw e
 
-pub if_no : {A : Type 0} (t : Bool) (a b : A) → t ≡ false → (if t then a else b) ≡ b
-unfolding if◌then◌else◌
+pub if_no : {A : Type 0} (t : Bool) (a b : A) → t ≡ false → (when t then a else b) ≡ b
+unfolding when◌then◌else◌
 if_no t a b e = rw e
 
 -- `search cases` finds the case of a choice by the tests on the way

@@ -18,7 +18,7 @@ use mir.Facts.{to_z_pos}
 use mir.Syntax.{w64}
 use mir.Val.{to_z}
 use Rattle.laws.proofs.Tests.{never, and_both, neither}
-use Rattle.laws.specs.Choice.{if◌then◌else◌, if_yes, minus}
+use Rattle.laws.specs.Choice.{when◌then◌else◌, if_yes, minus}
 use Rattle.laws.specs.Ranges.{firsts}
 use Rattle.learn.specs.Answers.{bad_best, pilot_refusal, noise_refusal, points_refusal}
 use Rattle.learn.specs.Learning.{all_below, sum_at, count_at, all_piloted, set_learned, mean_at, set_means, learned_slice}
@@ -114,13 +114,13 @@ no : {X : Type 0} (n : ℕ) → suc n ≡ 0 → X
 no n e = absurd (omega (arith, e))
 
 -- a choice of numbers that is 0, where one of them is above 0
-pub yes_0 : (t : Bool) (a n : ℕ) → (if t then a else suc n) ≡ 0 → (t ≡ true) × (a ≡ 0)
-unfolding if◌then◌else◌
+pub yes_0 : (t : Bool) (a n : ℕ) → (when t then a else suc n) ≡ 0 → (t ≡ true) × (a ≡ 0)
+unfolding when◌then◌else◌
 yes_0 true a n e = (refl, e)
 yes_0 false a n e = no n e
 
-pub no_0 : (t : Bool) (n b : ℕ) → (if t then suc n else b) ≡ 0 → (t ≡ false) × (b ≡ 0)
-unfolding if◌then◌else◌
+pub no_0 : (t : Bool) (n b : ℕ) → (when t then suc n else b) ≡ 0 → (t ≡ false) × (b ≡ 0)
+unfolding when◌then◌else◌
 no_0 true n b e = no n e
 no_0 false n b e = (refl, e)
 

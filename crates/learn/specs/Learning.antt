@@ -1,6 +1,6 @@
 -- What pilots and noise samples add up to, and what that teaches: `Learn` of chain/demap.rs.
 use Rattle.std.specs.Prelude.{ℕ, zero, suc, ◌+◌, ◌*◌, ◌/◌, ◌^◌, Bool, true, ◌&&◌, List, ltb, ℤ, pos, ◌+ℤ◌, get_or, set, replicate}
-use Rattle.laws.specs.Choice.{if◌then◌else◌}
+use Rattle.laws.specs.Choice.{when◌then◌else◌}
 use Rattle.laws.specs.Ranges.{firsts}
 use Rattle.fx.specs.Fx.{div_round, sat16_of}
 use Rattle.demap.specs.Demap.{squared_size}
@@ -64,7 +64,7 @@ set_means l bits = firsts (λ (i : ℕ). mean_at l.sum l.count (set_start bits +
 
 -- the slice of learned points after a set was asked for: "no learned points while a label has count 0"
 unfoldable pub learned_slice : Learn → ℕ → List ℤ → List ℤ
-learned_slice l bits learned = if set_learned l bits then with_set bits (set_means l bits) learned else learned
+learned_slice l bits learned = when set_learned l bits then with_set bits (set_means l bits) learned else learned
 
 -- ---- the noise figure: the mean of the samples, rounded
 unfoldable pub mean_noise : Learn → ℤ

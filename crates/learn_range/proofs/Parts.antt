@@ -95,7 +95,7 @@ set_before bits n b h =
 
 -- ---- the sets of 1 to n bits, one after another
 module _ (l : Learn) where
-  pub learned_long : (bits : ℕ) (xs : List ℤ) → Bits bits → length xs ≡ 124 → length (learned_slice l bits xs) ≡ 124
+  pub learned-long : (bits : ℕ) (xs : List ℤ) → Bits bits → length xs ≡ 124 → length (learned_slice l bits xs) ≡ 124
   unfolding learned_slice with_set
   learned-long bits xs b h =
       if_both (λ (ys : List ℤ). length ys ≡ 124) (set_learned l bits) _ xs

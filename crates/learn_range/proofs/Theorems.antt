@@ -13,10 +13,10 @@ use lib.IntN.{ℤ, pos, nat_abs, ◌+ℤ◌}
 use lib.ListN.{length, get_or}
 use lib.Signed.{le_z, ◌≤ℤ◌, le_z_yes}
 use Rattle.laws.proofs.Floor.{IsFloor, floor_is}
-use Rattle.laws.proofs.Linear.{up, le_ud, size_ud}
+use Rattle.laws.proofs.Linear.{le_ud, size_ud}
 use Rattle.laws.proofs.Lists.{getD-firsts}
 use Rattle.laws.proofs.Tests.{never, and_both, if_both, if_either, if_ap, if_cong}
-use Rattle.laws.specs.Choice.{if◌then◌else◌, if_yes, if_no, minus}
+use Rattle.laws.specs.Choice.{when◌then◌else◌, if_yes, if_no, minus}
 use Rattle.laws.specs.Ranges.{firsts}
 use Rattle.fx.proofs.Theorems.{Saturates, sat16_theorem}
 use Rattle.fx.specs.Fx.{div_round, sat16_of}
@@ -102,7 +102,7 @@ points_6 l bits len e =
     if_both P (not (eqb len 124) || bad_bits bits) 4 _ (λ z. omega arith) (if_either P (learn_in_range l) 0 6 (λ q z. omega arith) (λ q. absurd (never (sym e ∙ q))))
 
 -- the noise figure that is answered: the mean, if there is a sample
-pub figure_theorem : (l : Learn) → Coherent l → figure_answer l ≡ (if eqb l.samples 0 then figured 0 l None else figured 0 l (Value (mean_noise l)))
+pub figure_theorem : (l : Learn) → Coherent l → figure_answer l ≡ (when eqb l.samples 0 then figured 0 l None else figured 0 l (Value (mean_noise l)))
 unfolding figure_answer
 figure_theorem l c = if_yes (learn_in_range l) _ _ (coherent_in_range l c)
 
@@ -180,7 +180,7 @@ mean_theorem sum n h =
 
 -- a half goes up: of two numbers of sum -3 the mean is -1
 pub half_theorem : mean_of (minus 3) 2 ≡ minus 1
-unfolding mean_of div_round sat16_of if◌then◌else◌
+unfolding mean_of div_round sat16_of when◌then◌else◌
 half_theorem = refl
 
 -- the saturation does nothing where the numbers are of 16 bits: their mean is of 16 bits too
@@ -250,7 +250,7 @@ noise_theorem l c h =
 
 -- ---- IN FORCE before the first frame: the noise figure 52,556 has the scale 81,722
 pub default_theorem : (default_force.n0 ≡ pos 52556) × (default_force.k ≡ pos 81722)
-unfolding default_force scale_of div_round if◌then◌else◌
+unfolding default_force scale_of div_round when◌then◌else◌
 default_theorem = (refl, refl)
 
 -- ---- FRAMES: after any frames that learned by calls the numbers in force are in range, and such a frame is not refused with 6
@@ -341,7 +341,7 @@ unfolding points_in_force set_of
 part_theorem learned nominal flags bits e =
     let k = sets_taken (length learned) (length nominal) bits e in
     let fits = set_fits bits k.bits_ok in
-    rw (if_yes _ (set_of bits (if get_or flags (bits - 1) false then learned else nominal)) [] (eq-eqb (sets_refusal (length learned) (length nominal) bits) 0 e))
+    rw (if_yes _ (set_of bits (when get_or flags (bits - 1) false then learned else nominal)) [] (eq-eqb (sets_refusal (length learned) (length nominal) bits) 0 e))
     (if_both (λ (xs : List ℤ). length (set_of bits xs) ≡ 2 * 2 ^ bits) (get_or flags (bits - 1) false) learned nominal
     (part_long (set_start bits) (set_size bits) learned (rw k.learned_long fits)) (part_long (set_start bits) (set_size bits) nominal (rw k.nominal_long fits)))
 
@@ -376,7 +376,7 @@ means_there l learned bits h b t =
     (slices-here l 5 learned (omega arith) h bits b b.few t)
 
 in_force : (l : Learn) (learned nominal : List ℤ) (bits : ℕ) → length learned ≡ 124 → length nominal ≡ 124 → Bits bits →
-    points_in_force (slices_learned l 5 learned) nominal (set_flags l) bits ≡ (if set_learned l bits then set_means l bits else set_of bits nominal)
+    points_in_force (slices_learned l 5 learned) nominal (set_flags l) bits ≡ (when set_learned l bits then set_means l bits else set_of bits nominal)
 unfolding points_in_force
 in_force l learned nominal bits h k b =
     let xs = slices_learned l 5 learned in
@@ -387,7 +387,7 @@ in_force l learned nominal bits h k b =
 pub force_theorem : (f : InForce) (l : Learn) (frame : ℕ) (learned nominal : List ℤ) (bits : ℕ) → next_refusal f l (length learned) ≡ 0 →
     length nominal ≡ 124 → Bits bits →
     points_in_force (next_slice f l learned) nominal (next_answer f l frame learned).in_force.learned bits
-    ≡ (if set_learned l bits then set_means l bits else set_of bits nominal)
+    ≡ (when set_learned l bits then set_means l bits else set_of bits nominal)
 unfolding next_slice next_answer renewed_of
 force_theorem f l frame learned nominal bits e h b =
     let t = eq-eqb (next_refusal f l (length learned)) 0 e in
@@ -399,7 +399,7 @@ force_theorem f l frame learned nominal bits e h b =
 
 -- .. and the slice keeps the part of a set that is not learned
 pub slice_theorem : (f : InForce) (l : Learn) (learned : List ℤ) (bits : ℕ) → next_refusal f l (length learned) ≡ 0 → Bits bits →
-    set_of bits (next_slice f l learned) ≡ (if set_learned l bits then set_means l bits else set_of bits learned)
+    set_of bits (next_slice f l learned) ≡ (when set_learned l bits then set_means l bits else set_of bits learned)
 unfolding next_slice
 slice_theorem f l learned bits e b =
     let h = (next_taken f l (length learned) e).long in

@@ -3,7 +3,7 @@ use mathlib.Core.Bool.{true, false}
 use mathlib.Core.List.{List, [], ◌∷◌, ◌++◌, append_assoc}
 use mathlib.Core.Path.{◌≡◌, refl, sym, ap, ap₂, subst, ◌∙◌}
 use Prim.Native.Nat.{ℕ, zero, suc, ◌+◌, ◌-◌, ◌/◌, ◌%◌, ◌^◌, ◌≤◌, ◌<◌}
-use native.Mathlib.Nat.{not-suc-le-zero, add-zero, pow-suc, one-le-pow, pow-le-pow_right}
+use native.Mathlib.Nat.{add-zero}
 use native.Mathlib.Omega.{arith}
 use native.Mathlib.Numerals.{add-one}
 use borrow.Author.Tests.{eq-eqb, lt-ltb, le-ltb, le-leb, lt-leb, ltb-true, leb-true, leb-false}
@@ -12,10 +12,9 @@ use lib.IntN.{ℤ, pos, negsuc, nat_abs}
 use lib.ListN.{length, get_or, take, drop, set, length-append}
 use lib.Signed.{lt_z}
 use lib.Seq.{paste, paste-zero, take-length, length-take-le, length-paste, take_at, drop_at, drop-drop, set_split, append_snoc}
-use Rattle.io.specs.Digits.{hex_digit_ascii, last_digits, IsDigitCount}
 use Rattle.laws.proofs.Tests.{by_test, never}
 use Rattle.laws.specs.Choice.{if_yes, if_no}
-use Rattle.lines.specs.Decimal.{digit, decimal_in, decimal_of, signed_of}
+use Rattle.lines.specs.Decimal.{decimal_of, signed_of}
 use Rattle.lines.specs.Place.{written, Wrote, room_refusal, printed_at, printed_into}
 use Rattle.lines.specs.declared.Printed.{Printed}
 use Rattle.lines.specs.Lines.{value_text, values_to, soft_refusal}
@@ -62,50 +61,6 @@ pub one_written : (o : List ℕ) (at b : ℕ) → at < length o → set o at b �
 unfolding written
 one_written o at b h =
     set_split o at b h ∙ sym (append_snoc (take at o) b (drop (suc at) o)) ∙ ap (λ (k : ℕ). take at o ++ (b ∷ []) ++ drop k o) (sym (add-one at))
-
--- ---- digits
-glyph_digit : (d : ℕ) → d < 10 → hex_digit_ascii d ≡ digit d
-glyph_digit d h = rw (lt-ltb d 10 h)
-
-last_digit : (n f : ℕ) → n < 10 → last_digits 10 1 n ≡ decimal_in (suc f) n
-unfolding decimal_in
-last_digit n f h =
-    let e : n % 10 ≡ n = omega arith in
-    ap (λ (d : ℕ). d ∷ []) (glyph_digit (n % 10) (omega arith) ∙ ap digit e) ∙ sym (if_yes _ _ _ (lt-ltb n 10 h))
-
-more_digits : (j n f : ℕ) → 10 ≤ n → last_digits 10 j (n / 10) ≡ decimal_in f (n / 10) → last_digits 10 (suc j) n ≡ decimal_in (suc f) n
-unfolding decimal_in
-more_digits j n f h e =
-    ap₂ (λ (l : List ℕ) (d : ℕ). l ++ (d ∷ [])) e (glyph_digit (n % 10) (omega arith)) ∙ sym (if_no _ _ _ (le-ltb n 10 h))
-
-fewer : (j n : ℕ) → IsDigitCount 10 1 n (suc (suc j)) → (10 ≤ n) × IsDigitCount 10 1 (n / 10) (suc j)
-fewer j n d =
-    let p = pow-suc 10 (suc j) in
-    let q = pow-suc 10 j in
-    let one : 1 ≤ 10 ^ j = one-le-pow j 10 (omega arith) in
-    let a : suc (suc j) - 1 ≡ suc j = omega arith in
-    let b : suc j - 1 ≡ j = omega arith in
-    let big : 10 ^ suc j ≤ n = subst (λ (e : ℕ). 10 ^ e ≤ n) a (d.2 (omega arith)) in
-    let less : 10 ^ j ≤ n / 10 = omega (arith, q, big) in
-    (omega (arith, q, one, big), (omega arith, omega (arith, p, d.1), λ l. subst (λ (e : ℕ). 10 ^ e ≤ n / 10) (sym b) less))
-
-pub digits_decimal : (k f n : ℕ) → k ≤ f → IsDigitCount 10 1 n k → last_digits 10 k n ≡ decimal_in f n
-digits_decimal zero f n h d = absurd (not-suc-le-zero d.0)
-digits_decimal (suc k) zero n h d = absurd (not-suc-le-zero h)
-digits_decimal (suc zero) (suc f) n h d = last_digit n f d.1
-digits_decimal (suc (suc j)) (suc f) n h d =
-    let e = fewer j n d in more_digits (suc j) n f e.0 (digits_decimal (suc j) f (n / 10) (omega arith) e.1)
-
--- 20 digits hold a number of 64 bits
-pub few_digits : (n k : ℕ) → n < 2 ^ 64 → IsDigitCount 10 1 n k → k ≤ 20
-few_digits n k h d =
-    by_test (leb k 20)
-    (λ t. leb-true k 20 t)
-    (λ t.
-    let l = leb-false k 20 t in
-    let m : 10 ^ (k - 1) ≤ n = d.2 (omega arith) in
-    let p : 10 ^ 20 ≤ 10 ^ (k - 1) = pow-le-pow_right {n = 10} (omega arith) {i = 20} {j = k - 1} (omega arith) in
-    absurd (omega (arith, h, m, p)))
 
 -- ---- lines
 pub nothing : (o : List ℕ) (at : ℕ) → at ≤ length o → Wrote o at [] o at

@@ -1,6 +1,6 @@
 -- Numbers as text, in base ten.
 use Rattle.std.specs.Prelude.{ℕ, zero, suc, ◌+◌, ◌/◌, ◌%◌, List, [], ◌∷◌, ◌++◌, ltb, ℤ, pos, negsuc}
-use Rattle.laws.specs.Choice.{if◌then◌else◌}
+use Rattle.laws.specs.Choice.{when◌then◌else◌}
 
 -- the ASCII code of a digit
 abbrev pub digit : ℕ → ℕ
@@ -11,7 +11,7 @@ unfoldable pub decimal_in : ℕ → ℕ → List ℕ
 decimal_in zero n = []
 decimal_in (suc k) n =
     let high = decimal_in k (n / 10) in
-    if ltb n 10 then digit n ∷ [] else high ++ (digit (n % 10) ∷ [])
+    when ltb n 10 then digit n ∷ [] else high ++ (digit (n % 10) ∷ [])
 
 -- a number of 64 bits: 20 digits hold it
 unfoldable pub decimal_of : ℕ → List ℕ

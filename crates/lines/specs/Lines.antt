@@ -1,6 +1,6 @@
 -- The lines: document 01, "Capture". Letters are ASCII codes; 32 is a blank, 10 ends a line.
 use Rattle.std.specs.Prelude.{ℕ, zero, suc, ◌+◌, Bool, true, false, List, [], ◌∷◌, ◌++◌, leb, ltb, ℤ, pos, length, get_or}
-use Rattle.laws.specs.Choice.{if◌then◌else◌}
+use Rattle.laws.specs.Choice.{when◌then◌else◌}
 use Rattle.sync_heads.specs.declared.Head.{Head}
 use Rattle.sync_heads.specs.declared.Word.{Word}
 use Rattle.sync_heads.specs.declared.Word.TheVariants.{Ssync, Fsync, NotFsync}
@@ -68,7 +68,7 @@ soft_line at j vs = (115 ∷ 111 ∷ 102 ∷ 116 ∷ 32 ∷ []) ++ number_then a
 
 -- in a buffer: 1 without room; 4, "bits outside 1..5", for more than five values
 unfoldable pub soft_refusal : ℕ → ℕ → ℕ → ℕ
-soft_refusal count place room = if leb (place + 256) room then if ltb 5 count then 4 else 0 else 1
+soft_refusal count place room = when leb (place + 256) room then when ltb 5 count then 4 else 0 else 1
 
 -- `end SYMBOLS` and `refused NUMBER`
 unfoldable pub end_line : ℕ → List ℕ

@@ -1,5 +1,5 @@
 // Text and numbers at a place of a lent buffer. Each answers the place behind what it wrote.
-ghost use Rattle.std.specs.Prelude.{◌≡◌, ◌∷◌, [], ◌++◌, ◌+◌, ◌*◌, ◌≤◌, pos, nat_abs, length};
+ghost use Rattle.std.specs.Prelude.{◌≡◌, ◌∷◌, [], ◌++◌, ◌+◌, ◌*◌, ◌<◌, ◌≤◌, pos, nat_abs, length, drop};
 ghost use Rattle.std.specs.Int.Signed.{lt_z};
 ghost use Rattle.lines.specs.Decimal.{decimal_of};
 ghost use Rattle.lines.specs.Place.{Wrote};
@@ -27,13 +27,28 @@ pub(crate) fn byte(out: &mut [u8], at: usize, b: u8) -> usize
     at + 1
 }
 
+// Puts the digits of n at the end of out, and answers the place of the first.
+fn decimal(n: u64, out: &mut [u8; 20]) -> usize
+    ensures { (result < 20) × (drop result out.new ≡ decimal_of n) }
+{
+    let mut i: usize = 19;
+    let mut rest = n / 10;
+    out[19] = 48 + (n % 10) as u8;
+    while 0 < rest {
+        i -= 1;
+        out[i] = 48 + (rest % 10) as u8;
+        rest /= 10;
+    }
+    i
+}
+
 pub(crate) fn number(out: &mut [u8], at: usize, n: u64) -> usize
     requires { at + 20 ≤ length out.old }
     ensures { (Wrote out.old at (decimal_of n) out.new result) × (result ≤ at + 20) }
 {
     let mut digits = [0u8; 20];
-    let k = io::decimal(n, &mut digits);
-    text(out, at, &digits[..k])
+    let k = decimal(n, &mut digits);
+    text(out, at, &digits[k..])
 }
 
 // A number and the byte behind it.

@@ -1,7 +1,7 @@
 -- Laws of the definitions of phase that its proofs cite: sizes of gains and steps, and what is known where nothing refuses. Assumes nothing.
 use mathlib.Core.Bool.{Bool, true, false, not, ◌&&◌, ◌||◌}
-use mathlib.Core.Path.{◌≡◌, refl, sym, ap, ◌∙◌}
-use Prim.Native.Nat.{ℕ, suc, ◌+◌, ◌-◌, ◌*◌, ◌/◌, ◌^◌, ◌≤◌, ◌<◌}
+use mathlib.Core.Path.{◌≡◌, refl, sym}
+use Prim.Native.Nat.{ℕ, suc, ◌+◌, ◌*◌, ◌^◌, ◌≤◌, ◌<◌}
 use native.Mathlib.Nat.{div-lt_iff_lt-mul, le_of_suc-le-suc}
 use native.Mathlib.Omega.{arith}
 use borrow.Author.Tests.{ltb-true, ltb-false, leb-true, leb-false, le-ltb, eqb-true}
@@ -11,13 +11,12 @@ use lib.Signed.{lt_z, le_z}
 use mir.Facts.{to_z_pos}
 use mir.Syntax.{w64}
 use mir.Val.{to_z, of_z}
-use Rattle.angles.proofs.Laws.{round_near}
 use Rattle.fx.proofs.Laws.{not_wide}
 use Rattle.fx.specs.Answers.{wide}
-use Rattle.fx.specs.Fx.{round_shift, div_round}
+use Rattle.fx.specs.Fx.{div_round}
 use Rattle.laws.proofs.Size.{Num, arg_le, sfits_abs, times}
 use Rattle.laws.proofs.Tests.{if_either, never, and_both, neither}
-use Rattle.laws.specs.Choice.{if◌then◌else◌, minus}
+use Rattle.laws.specs.Choice.{when◌then◌else◌, minus}
 use Rattle.sync_heads.specs.declared.Head.{Head}
 use Rattle.phase.specs.Answers.{past_end, place_past, push_refusal, head_refusal, correct_refusal}
 use Rattle.phase.specs.Phase.{gain_of}
@@ -55,13 +54,13 @@ no : {X : Type 0} (n : ℕ) → suc n ≡ 0 → X
 no n e = absurd (omega (arith, e))
 
 -- a choice between numbers above 0 and a further number that is 0: the test held
-yes_0 : (t : Bool) (a n : ℕ) → (if t then a else suc n) ≡ 0 → (t ≡ true) × (a ≡ 0)
-unfolding if◌then◌else◌
+yes_0 : (t : Bool) (a n : ℕ) → (when t then a else suc n) ≡ 0 → (t ≡ true) × (a ≡ 0)
+unfolding when◌then◌else◌
 yes_0 true a n e = (refl, e)
 yes_0 false a n e = no n e
 
-no_0 : (t : Bool) (n b : ℕ) → (if t then suc n else b) ≡ 0 → (t ≡ false) × (b ≡ 0)
-unfolding if◌then◌else◌
+no_0 : (t : Bool) (n b : ℕ) → (when t then suc n else b) ≡ 0 → (t ≡ false) × (b ≡ 0)
+unfolding when◌then◌else◌
 no_0 true n b e = no n e
 no_0 false n b e = (refl, e)
 

@@ -1,7 +1,7 @@
 -- "A slot is corrected, as `SlotPhase::correct`, only if at least 9,296 symbols came between two heads; those past the 9,296th are ignored."
 use Rattle.std.specs.Prelude.{ℕ, ◌+◌, ◌*◌, List, eqb, ltb, ℤ, pos, ◌+ℤ◌, ◌-ℤ◌, ◌*ℤ◌, get_or, set}
 use Rattle.std.specs.Int.Signed.{lt_z}
-use Rattle.laws.specs.Choice.{if◌then◌else◌}
+use Rattle.laws.specs.Choice.{when◌then◌else◌}
 use Rattle.fx.specs.Fx.{round_shift, div_round, sat16_of, round_index, cos_sin_at}
 use Rattle.angles.specs.Angles.{turned_by, turn_from, turned_back}
 use Rattle.angles.specs.declared.Symbol.{Symbol}
@@ -18,7 +18,7 @@ use Rattle.phase.specs.declared.Corrected.{Corrected}
 -- `gain_of`: 4,555,500,750 over the magnitude, rounded; a magnitude below 64 counts as 64. 4,555,500,750 is 2^27 times 24 times the root of 2,
 -- rounded: a sync symbol's amplitude becomes 2^10, with 17 fraction bits
 unfoldable pub gain_of : ℤ → ℤ
-gain_of amp = div_round (pos 4555500750) (if lt_z amp (pos 64) then pos 64 else amp)
+gain_of amp = div_round (pos 4555500750) (when lt_z amp (pos 64) then pos 64 else amp)
 
 -- ---- what is held
 -- a head's slot begins
@@ -27,7 +27,7 @@ begun_of h = Holds (record { head = h; count = 0 })
 
 -- a symbol is counted up to the n-th: 9,296
 unfoldable pub counted_in : ℕ → Held → Held
-counted_in n x = if ltb x.count n then record { head = x.head; count = x.count + 1 } else x
+counted_in n x = when ltb x.count n then record { head = x.head; count = x.count + 1 } else x
 
 unfoldable pub pushed_in : ℕ → SlotPhase → SlotPhase
 pushed_in n Idle = Idle
@@ -36,7 +36,7 @@ pushed_in n (Holds x) = Holds (counted_in n x)
 -- .. and written at its place: entries 2j and 2j + 1 for symbol j; all else stays
 unfoldable pub stored_in : ℕ → SlotPhase → ℤ → ℤ → List ℤ → List ℤ
 stored_in n Idle i q store = store
-stored_in n (Holds x) i q store = if ltb x.count n then set (set store (2 * x.count) i) (2 * x.count + 1) q else store
+stored_in n (Holds x) i q store = when ltb x.count n then set (set store (2 * x.count) i) (2 * x.count + 1) q else store
 
 abbrev pub pushed_of : SlotPhase → SlotPhase
 pushed_of s = pushed_in 9296 s
@@ -62,7 +62,7 @@ whole_of a b =
 -- the slot that a head completes, if its n symbols came
 unfoldable pub due_in : ℕ → SlotPhase → Head → Due
 due_in n Idle h = Nothing
-due_in n (Holds x) h = if eqb x.count n then Slot (whole_of x.head h) else Nothing
+due_in n (Holds x) h = when eqb x.count n then Slot (whole_of x.head h) else Nothing
 
 abbrev pub due_of : SlotPhase → Head → Due
 due_of s h = due_in 9296 s h

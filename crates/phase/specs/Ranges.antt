@@ -1,5 +1,5 @@
 -- The ranges of docs/RANGES.md, "Phase", and what the correction needs; the ranges imply it.
-use Rattle.std.specs.Prelude.{ℕ, ◌≤◌, ◌^◌, Bool, true, not, ◌&&◌, leb, ltb, pos, nat_abs}
+use Rattle.std.specs.Prelude.{◌≤◌, ◌^◌, Bool, true, not, ◌&&◌, leb, ltb, pos, nat_abs}
 use Rattle.std.specs.Int.Signed.{le_z}
 use Rattle.laws.specs.Choice.{minus}
 use Rattle.fx.specs.Answers.{wide}

@@ -1,7 +1,7 @@
 -- One more symbol of a block, and of a slot. Assumes nothing.
 use mathlib.Core.Bool.{true, ◌&&◌}
 use mathlib.Core.List.{List}
-use mathlib.Core.Path.{◌≡◌, sym}
+use mathlib.Core.Path.{◌≡◌}
 use Prim.Native.Nat.{ℕ, ◌+◌, ◌*◌, ◌≤◌, ◌^◌}
 use borrow.Author.Tests.{eqb-true}
 use lib.Dec.{eqb}
@@ -13,7 +13,6 @@ use Rattle.angles.specs.declared.Symbol.{Symbol}
 use Rattle.carrier.specs.Carrier.{rotated_of, advanced_nco}
 use Rattle.carrier.specs.declared.Nco.{Nco}
 use Rattle.laws.proofs.Tests.{if_either, if_both, and_both}
-use Rattle.laws.specs.Choice.{if◌then◌else◌}
 use Rattle.phase.proofs.Laws.{head_taken, phase_ok, whole_ok}
 use Rattle.phase.specs.Answers.{head_refusal, head_answer}
 use Rattle.phase.specs.Phase.{begun_of, whole_of, due_of, corrected_of, due_in}

@@ -1,6 +1,6 @@
 -- A block of rotated symbols, and a slot of corrected ones.
 use Rattle.std.specs.Prelude.{ℕ, zero, suc, ◌+◌, ◌*◌, ◌/◌, Bool, ◌&&◌, List, eqb, leb, ℤ, pos, length, get_or, set}
-use Rattle.laws.specs.Choice.{if◌then◌else◌}
+use Rattle.laws.specs.Choice.{when◌then◌else◌}
 use Rattle.carrier.specs.Carrier.{started_nco, rotated_of, advanced_nco}
 use Rattle.carrier.specs.declared.Nco.{Nco}
 
@@ -27,7 +27,7 @@ abbrev pub rotates : List ℤ → List ℤ → List ℤ → Bool
 rotates xs table out = eqb (length table) 1024 && leb (length xs) (length out)
 
 unfoldable pub rotated_phase : ℤ → List ℤ → List ℤ → List ℤ → ℕ
-rotated_phase freq xs table out = if rotates xs table out then (rotated_all xs table (length xs / 2) (turned (started_nco 0 freq) out)).nco.phase else 0
+rotated_phase freq xs table out = when rotates xs table out then (rotated_all xs table (length xs / 2) (turned (started_nco 0 freq) out)).nco.phase else 0
 
 unfoldable pub rotated_out : ℤ → List ℤ → List ℤ → List ℤ → List ℤ
-rotated_out freq xs table out = if rotates xs table out then (rotated_all xs table (length xs / 2) (turned (started_nco 0 freq) out)).out else out
+rotated_out freq xs table out = when rotates xs table out then (rotated_all xs table (length xs / 2) (turned (started_nco 0 freq) out)).out else out

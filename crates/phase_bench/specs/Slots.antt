@@ -1,6 +1,6 @@
 -- A slot of corrected symbols.
 use Rattle.std.specs.Prelude.{ℕ, zero, suc, ◌+◌, ◌*◌, ◌≤◌, ◌^◌, Bool, ◌&&◌, List, eqb, ℤ, pos, length, set}
-use Rattle.laws.specs.Choice.{if◌then◌else◌}
+use Rattle.laws.specs.Choice.{when◌then◌else◌}
 use Rattle.phase.specs.Phase.{corrected_of}
 use Rattle.phase.specs.Ranges.{WholeOk}
 use Rattle.phase.specs.Answers.{head_answer}
@@ -54,8 +54,8 @@ fitting table store p =
 -- 0; 1, a length is another; 6, a magnitude is too wide, so that no slot is due
 unfoldable pub corrected_code : Due → Bool → ℕ
 corrected_code Nothing fit = 6
-corrected_code (Slot w) fit = if fit then 0 else 1
+corrected_code (Slot w) fit = when fit then 0 else 1
 
 unfoldable pub corrected_places : Due → List ℤ → List ℤ → Places → Places
 corrected_places Nothing table store p = p
-corrected_places (Slot w) table store p = if fitting table store p then corrected_all w table store 9296 p else p
+corrected_places (Slot w) table store p = when fitting table store p then corrected_all w table store 9296 p else p

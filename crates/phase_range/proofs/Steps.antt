@@ -1,11 +1,10 @@
 -- The ranges of a slot to correct, exactly: the rounded steps of differences within their ranges. Assumes nothing.
-use mathlib.Core.Bool.{Bool, true, false, not, ◌&&◌}
-use mathlib.Core.Path.{◌≡◌, refl, sym, ap, ◌∙◌}
-use Prim.Native.Nat.{ℕ, zero, suc, ◌+◌, ◌-◌, ◌*◌, ◌/◌, ◌^◌, ◌≤◌, ◌<◌}
+use mathlib.Core.Bool.{true, false}
+use mathlib.Core.Path.{◌≡◌, refl}
+use Prim.Native.Nat.{ℕ, suc, ◌+◌, ◌-◌, ◌*◌, ◌^◌, ◌≤◌, ◌<◌}
 use native.Mathlib.Omega.{arith}
 use borrow.Author.Tests.{le-leb, le-ltb}
-use lib.Dec.{leb}
-use lib.IntN.{ℤ, pos, negsuc, nat_abs, ◌+ℤ◌, ◌-ℤ◌, ◌*ℤ◌}
+use lib.IntN.{ℤ, pos, negsuc, nat_abs, ◌-ℤ◌, ◌*ℤ◌}
 use lib.Signed.{mag, le_z}
 use Rattle.angles.proofs.Laws.{turn_size}
 use Rattle.angles.specs.Angles.{turn_from}
@@ -13,8 +12,6 @@ use Rattle.fx.proofs.Theorems.{shift_theorem}
 use Rattle.fx.specs.Answers.{wide}
 use Rattle.fx.specs.Fx.{div_round, round_shift}
 use Rattle.laws.proofs.Linear.{up, dn, sum_ud, dif_ud, neg_ud, ud_eq, size_ud}
-use Rattle.laws.proofs.Tests.{if_either}
-use Rattle.laws.specs.Choice.{minus}
 use Rattle.phase.proofs.Laws.{gain_size}
 use Rattle.phase.specs.Phase.{gain_of, per_symbol, whole_of}
 use Rattle.phase.specs.Ranges.{HeadOk, whole_in_range}

@@ -1,8 +1,8 @@
 -- What is true of every slot phase that came from calls, and what its slots hold. Each statement stands above its proof. Assumes nothing.
-use mathlib.Core.Bool.{Bool, true, false, not, ◌&&◌, ◌||◌}
+use mathlib.Core.Bool.{Bool, true, false, ◌&&◌, ◌||◌}
 use mathlib.Core.List.{List, [], ◌∷◌}
 use mathlib.Core.Path.{◌≡◌, refl, sym, ap, ap₂, subst, ◌∙◌}
-use Prim.Native.Nat.{ℕ, zero, suc, ◌+◌, ◌-◌, ◌*◌, ◌^◌, ◌≤◌, ◌<◌, min}
+use Prim.Native.Nat.{ℕ, zero, suc, ◌+◌, ◌*◌, ◌^◌, ◌≤◌, ◌<◌}
 use native.Mathlib.Nat.{not-suc-le-zero}
 use native.Mathlib.Omega.{arith}
 use borrow.Author.Tests.{eqb-true, eqb-false, eq-eqb, ltb-true, ltb-false, lt-ltb, le-ltb, le-leb, lt-leb, leb-false}
@@ -11,17 +11,15 @@ use lib.IntN.{ℤ, pos, nat_abs}
 use lib.ListN.{length, get_or, set, length-set}
 use lib.Seq.{get_or-set_same, get_or-set_other}
 use Rattle.angles.specs.declared.Symbol.{Symbol}
-use Rattle.fx.specs.Answers.{wide}
 use Rattle.laws.proofs.Tests.{by_test, if_either, if_both, never}
-use Rattle.laws.specs.Choice.{if◌then◌else◌, if_yes, if_no}
+use Rattle.laws.specs.Choice.{if_yes, if_no}
 use Rattle.phase.proofs.Laws.{push_taken, head_taken}
 use Rattle.phase.specs.Answers.{held_past, past_end, place_past, push_refusal, push_answer, push_store, head_refusal, head_answer, restart_answer, correct_refusal, correct_answer}
 use Rattle.phase.specs.Phase.{begun_of, pushed_of, stored_of, whole_of, due_of, symbol_at, corrected_of, stored_in, pushed_in, due_in, counted_in}
-use Rattle.phase.specs.Ranges.{held_in_range, phase_in_range, whole_in_range, HeadOk, WholeOk}
+use Rattle.phase.specs.Ranges.{held_in_range, phase_in_range, whole_in_range, HeadOk}
 use Rattle.phase.specs.declared.Due.{Due}
 use Rattle.phase.specs.declared.Due.TheVariants.{Nothing, Slot}
 use Rattle.phase.specs.declared.Headed.{Headed}
-use Rattle.phase.specs.declared.Held.{Held}
 use Rattle.phase.specs.declared.Kept.{Kept}
 use Rattle.phase.specs.declared.SlotPhase.{SlotPhase}
 use Rattle.phase.specs.declared.SlotPhase.TheVariants.{Idle, Holds}

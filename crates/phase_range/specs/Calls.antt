@@ -1,5 +1,5 @@
 -- Calls one after another, with one slot store.
-use Rattle.std.specs.Prelude.{ℕ, ◌*◌, ◌<◌, ◌≤◌, ◌+◌, ◌^◌, ◌≡◌, List, [], ◌∷◌, ℤ, pos, nat_abs, get_or}
+use Rattle.std.specs.Prelude.{ℕ, ◌*◌, ◌<◌, ◌≡◌, List, [], ◌∷◌, ℤ, pos, get_or}
 use Rattle.angles.specs.declared.Symbol.{Symbol}
 use Rattle.sync_heads.specs.declared.Head.{Head}
 use Rattle.phase.specs.declared.SlotPhase.{SlotPhase}

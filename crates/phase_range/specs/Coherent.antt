@@ -1,9 +1,8 @@
 -- The joint invariant of a slot phase: docs/RANGES.md, "Phase", with its ties.
-use Rattle.std.specs.Prelude.{ℕ, ◌+◌, ◌≤◌, ◌<◌, ◌^◌, ◌≡◌, true, nat_abs}
+use Rattle.std.specs.Prelude.{◌+◌, ◌≤◌, ◌<◌, ◌^◌, nat_abs}
 use Rattle.phase.specs.declared.Held.{Held}
 use Rattle.phase.specs.declared.SlotPhase.{SlotPhase}
 use Rattle.phase.specs.declared.SlotPhase.TheVariants.{Idle, Holds}
-use Rattle.phase.specs.Ranges.{phase_in_range}
 
 pub record HeldSound (x : Held) : Type 0 where
   pub amp : nat_abs x.head.amp ≤ 2 ^ 60

@@ -1,6 +1,6 @@
 -- The answers to calls, and what they leave of table and store.
 use Rattle.std.specs.Prelude.{ℕ, List, [], ◌∷◌, ◌≡◌, eqb, ℤ, get_or}
-use Rattle.laws.specs.Choice.{if◌then◌else◌}
+use Rattle.laws.specs.Choice.{when◌then◌else◌}
 use Rattle.phase.specs.declared.SlotPhase.TheVariants.{Idle}
 use Rattle.wire.specs.Wire.{numbers_of, packed_of}
 use Rattle.digest.specs.Digest.{digest_of}
@@ -37,10 +37,10 @@ answer_of op p table store = get_or (answers p table store) op (four_told 255 0 
 
 -- call 13 pushes a symbol, call 14 sets an entry of the table, call 15 one of the store
 unfoldable pub table_of : ℕ → List ℕ → List ℤ → List ℤ
-table_of op p table = if eqb op 14 then set_of p table else table
+table_of op p table = when eqb op 14 then set_of p table else table
 
 unfoldable pub store_of : ℕ → List ℕ → List ℤ → List ℤ
-store_of op p store = if eqb op 13 then push_left p store else if eqb op 15 then set_of p store else store
+store_of op p store = when eqb op 13 then push_left p store else when eqb op 15 then set_of p store else store
 
 -- all other calls write nothing
 abbrev pub Reads : ℕ → Type 0

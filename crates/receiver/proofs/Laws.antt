@@ -11,7 +11,7 @@ use lib.IntN.{ℤ, pos, negsuc, nat_abs}
 use lib.ListN.{get_or, length, replicate, set, take}
 use lib.Pow.{pow_mono}
 use lib.Seq.{length-take-le, set_at, take-length, take-suc}
-use Rattle.laws.specs.Choice.{if◌then◌else◌, if_yes, if_no}
+use Rattle.laws.specs.Choice.{when◌then◌else◌, if_yes, if_no}
 use lib.Signed.{lt_z}
 use Rattle.laws.proofs.Size.{pos_abs}
 use Rattle.laws.proofs.Tests.{by_test, neither, never}
@@ -50,8 +50,8 @@ most (negsuc n) d e = absurd (never d)
 pub points_taken : (r : Receiver) (bits len : ℕ) (k : ℤ) → points_refusal r bits len k ≡ 0 → (len ≤ 64) × (k ≡ pos (nat_abs k)) × (nat_abs k ≤ 2 ^ 24)
 unfolding points_refusal
 points_taken r bits len k h =
-    let n6 : ℕ = if receiver_in_range r then 0 else 6 in
-    let n5 : ℕ = if bad_scale k then 5 else n6 in
+    let n6 : ℕ = when receiver_in_range r then 0 else 6 in
+    let n5 : ℕ = when bad_scale k then 5 else n6 in
     by_test (bad_points bits len)
     (λ a. no 3 (sym (if_yes (bad_points bits len) 4 n5 a) ∙ h))
     (λ a. by_test (bad_scale k)

@@ -1,7 +1,7 @@
 -- `feed`: many symbols of a lent byte slice in one call: the symbol call, repeated. It stops after the first symbol that answers anything, before one that
 -- would be refused, or at the slice's end, and tells how many it used.
 use Rattle.std.specs.Prelude.{ℕ, zero, suc, ◌+◌, ◌*◌, ◌/◌, Bool, not, ◌&&◌, ◌||◌, List, eqb, ℤ, pos, get_or, length}
-use Rattle.laws.specs.Choice.{if◌then◌else◌}
+use Rattle.laws.specs.Choice.{when◌then◌else◌}
 use Rattle.sync_corr.specs.Correlate.{ones_of}
 use Rattle.sync_step.specs.declared.Events.{Events}
 use Rattle.sync_step.specs.Events.{is_nothing, no_events}
@@ -51,18 +51,18 @@ fed_from b (suc k) i r l =
     let a = symbol_answer r (input_at b i) l in
     let m = symbol_lent r (input_at b i) l in
     let on = fed_from b k (i + 1) a.receiver m in
-    if eqb a.refusal 0
-    then if tells_any a then record { used = i + 1; receiver = a.receiver; lent = m; events = a.events; runs = a.runs } else on
+    when eqb a.refusal 0
+    then when tells_any a then record { used = i + 1; receiver = a.receiver; lent = m; events = a.events; runs = a.runs } else on
     else quiet_at i r l
 
 -- ---- refusals: 1, 2, 3 and 6 as a symbol's, with no symbol too; 7 and 8 if the first symbol would be refused so. A
 -- refusal is answered only where no symbol was used and nothing changed.
 unfoldable pub standing_refusal : Receiver → Block → Lent → ℕ
 standing_refusal r b l =
-    if stores_fit l then if ones_of b.f && ones_of b.s then if eqb (length b.table) 1024 then if receiver_in_range r then 0 else 6 else 3 else 2 else 1
+    when stores_fit l then when ones_of b.f && ones_of b.s then when eqb (length b.table) 1024 then when receiver_in_range r then 0 else 6 else 3 else 2 else 1
 
 unfoldable pub feed_refusal : Receiver → Block → Lent → ℕ
-feed_refusal r b l = if eqb (symbols_of b) 0 then standing_refusal r b l else (symbol_answer r (input_at b 0) l).refusal
+feed_refusal r b l = when eqb (symbols_of b) 0 then standing_refusal r b l else (symbol_answer r (input_at b 0) l).refusal
 
 unfoldable pub feed_of : Receiver → Block → Lent → Fed
-feed_of r b l = if eqb (feed_refusal r b l) 0 then fed_from b (symbols_of b) 0 r l else quiet_at 0 r l
+feed_of r b l = when eqb (feed_refusal r b l) 0 then fed_from b (symbols_of b) 0 r l else quiet_at 0 r l

@@ -1,6 +1,6 @@
 -- An accepted symbol: "rotate; slot sync; each head to `Nco`, then `SlotPhase`; then the symbol 23 back to `SlotPhase`."
 use Rattle.std.specs.Prelude.{ℕ, ◌+◌, ◌^◌, Bool, false, ◌||◌, List, leb, ltb, ℤ}
-use Rattle.laws.specs.Choice.{if◌then◌else◌}
+use Rattle.laws.specs.Choice.{when◌then◌else◌}
 use Rattle.angles.specs.declared.Symbol.{Symbol}
 use Rattle.sync_step.specs.declared.Step.{Step}
 use Rattle.sync_step.specs.Step.{place_of}
@@ -82,7 +82,7 @@ module _ (n : ℕ) (r : Receiver) (x : Input) (l : Lent) where
   unfoldable pub left : Receiver
   left =
       record {
-        front = record { nco = heads.nco; sync = sync_left; phase = if enough then pushed_in n heads.phase else heads.phase };
+        front = record { nco = heads.nco; sync = sync_left; phase = when enough then pushed_in n heads.phase else heads.phase };
         back = after_all r.back slot x.f x.s;
         points = r.points;
       }
@@ -92,14 +92,14 @@ module _ (n : ℕ) (r : Receiver) (x : Input) (l : Lent) where
   lost = loses_in synced.events
 
   unfoldable pub receiver_after : Receiver
-  receiver_after = if lost then started (next_of r + 1) (kept_of left) else left
+  receiver_after = when lost then started (next_of r + 1) (kept_of left) else left
 
   -- ---- the lent stores afterwards; a restarted phase holds no slot, so nothing is written
   unfoldable pub acc_after : List ℕ
   acc_after = stored_of synced.stores (place_of n r.front.sync.run.t) l.acc
 
   unfoldable pub store_after : List ℤ
-  store_after = if lost then l.store else if enough then stored_in n heads.phase back23.i back23.q l.store else l.store
+  store_after = when lost then l.store else when enough then stored_in n heads.phase back23.i back23.q l.store else l.store
 
   unfoldable pub soft_after : List ℤ
   soft_after = written_on (soft_all r.points aligned) l.soft

@@ -36,7 +36,7 @@ fn turn(
     soft: &mut [i8],
 ) -> Fed
     requires { 2 * k ≤ length bytes.now }
-    ensures { (result ≡ feed_answer r (rest_of (record { bytes = bytes.entry.now; f = words.f; s = words.s; table = table.now }) k) (lent_of acc.old store.old soft.old)) × (lent_of acc.new store.new soft.new ≡ (feed_of r (rest_of (record { bytes = bytes.entry.now; f = words.f; s = words.s; table = table.now }) k) (lent_of acc.old store.old soft.old)).lent) × (2 * (k + result.used) ≤ length bytes.entry.now) }
+    ensures { (result ≡ feed_answer r (rest_of (record { bytes = bytes.now; f = words.f; s = words.s; table = table.now }) k) (lent_of acc.old store.old soft.old)) × (lent_of acc.new store.new soft.new ≡ (feed_of r (rest_of (record { bytes = bytes.now; f = words.f; s = words.s; table = table.now }) k) (lent_of acc.old store.old soft.old)).lent) × (2 * (k + result.used) ≤ length bytes.now) }
 {
     let from = 2 * k;
     let f = words.f;
@@ -58,7 +58,7 @@ pub extern "C" fn measure_receive(
     store: &mut [i16],
     soft: &mut [i8],
 ) -> Received
-    ensures { (result ≡ received (feed_many (record { bytes = bytes.entry.now; f = words.f; s = words.s; table = table.now }) calls (new_flow bits points.now k (lent_of acc.old store.old soft.old)))) × (lent_of acc.new store.new soft.new ≡ (feed_many (record { bytes = bytes.entry.now; f = words.f; s = words.s; table = table.now }) calls (new_flow bits points.now k (lent_of acc.old store.old soft.old))).lent) }
+    ensures { (result ≡ received (feed_many (record { bytes = bytes.now; f = words.f; s = words.s; table = table.now }) calls (new_flow bits points.now k (lent_of acc.old store.old soft.old)))) × (lent_of acc.new store.new soft.new ≡ (feed_many (record { bytes = bytes.now; f = words.f; s = words.s; table = table.now }) calls (new_flow bits points.now k (lent_of acc.old store.old soft.old))).lent) }
 {
     let a = receiver::new(0, 0, acc);
     let n = a.receiver;
@@ -94,7 +94,7 @@ pub extern "C" fn measure_symbols(
     store: &mut [i16],
     soft: &mut [i8],
 ) -> Received
-    ensures { (result ≡ received (symbol_many (record { bytes = bytes.entry.now; f = words.f; s = words.s; table = table.now }) (length bytes.entry.now / 2) (new_flow bits points.now k (lent_of acc.old store.old soft.old)))) × (lent_of acc.new store.new soft.new ≡ (symbol_many (record { bytes = bytes.entry.now; f = words.f; s = words.s; table = table.now }) (length bytes.entry.now / 2) (new_flow bits points.now k (lent_of acc.old store.old soft.old))).lent) }
+    ensures { (result ≡ received (symbol_many (record { bytes = bytes.now; f = words.f; s = words.s; table = table.now }) (length bytes.now / 2) (new_flow bits points.now k (lent_of acc.old store.old soft.old)))) × (lent_of acc.new store.new soft.new ≡ (symbol_many (record { bytes = bytes.now; f = words.f; s = words.s; table = table.now }) (length bytes.now / 2) (new_flow bits points.now k (lent_of acc.old store.old soft.old))).lent) }
 {
     let f = words.f;
     let s = words.s;

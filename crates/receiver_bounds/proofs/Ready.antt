@@ -9,7 +9,7 @@ use borrow.Author.Tests.{eqb-true, le-leb, leb-true, lt-ltb}
 use lib.Dec.{eqb, leb}
 use lib.IntN.{ℤ, pos, negsuc, nat_abs}
 use lib.Signed.{le_z}
-use Rattle.laws.specs.Choice.{if◌then◌else◌, if_yes, minus}
+use Rattle.laws.specs.Choice.{when◌then◌else◌, if_yes, minus}
 use Rattle.laws.proofs.Tests.{and_both, by_test, never}
 use Rattle.sync_corr.specs.declared.Corr.{Corr}
 use Rattle.sync_lock.specs.declared.Tally.{Tally}
@@ -183,7 +183,7 @@ pub back_ready : (b : Back) → back_within b ≡ true → BackOk b
 unfolding back_within eq_within
 back_ready b e =
     let l = eqb b.eq.filled 0 || eqb b.eq.filled 11 in
-    let s = if b.eq.opened then sums_within b.eq.sums else true in
+    let s = when b.eq.opened then sums_within b.eq.sums else true in
     let a = and_both (l && s && metas_within b.metas) (last_within b.last) e in
     let c = and_both (l && s) (metas_within b.metas) a.0 in
     let d = and_both l s c.0 in

@@ -1,7 +1,7 @@
 -- The ranges of docs/RANGES.md, "Receiver": what receiver calls can leave in each number of a receiver's parts.
 use Rattle.std.specs.Prelude.{ℕ, ◌+◌, ◌-◌, ◌%◌, ◌^◌, Bool, true, ◌&&◌, ◌||◌, List, [], ◌∷◌, eqb, leb, ℤ, pos, nat_abs}
 use Rattle.std.specs.Int.Signed.{le_z}
-use Rattle.laws.specs.Choice.{if◌then◌else◌, minus}
+use Rattle.laws.specs.Choice.{when◌then◌else◌, minus}
 use Rattle.sync_corr.specs.declared.Corr.{Corr}
 use Rattle.sync_lock.specs.declared.Tally.{Tally}
 use Rattle.sync_lock.specs.Ranges.{lock_in_range}
@@ -92,7 +92,7 @@ unfoldable pub sums_within : Sums → Bool
 sums_within s = leb s.count 4194288 && upper_in_range 4194288 s.r 0 11 && all_within 199010845458432 s.p
 
 unfoldable pub eq_within : Equaliser → Bool
-eq_within e = (eqb e.filled 0 || eqb e.filled 11) && (if e.opened then sums_within e.sums else true)
+eq_within e = (eqb e.filled 0 || eqb e.filled 11) && (when e.opened then sums_within e.sums else true)
 
 -- ---- alignment: no symbol waits, or the last five of a slot do
 unfoldable pub meta_within : ℕ → Meta → Bool

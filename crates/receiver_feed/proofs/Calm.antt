@@ -9,7 +9,7 @@ use borrow.Author.Tests.{eq-eqb, le-leb, leb-true, lt-leb, lt-ltb, le-ltb, ltb-t
 use lib.Dec.{eqb, leb, ltb}
 use lib.IntN.{ℤ, nat_abs, pos}
 use lib.ListN.{drop, get_or, length, length-set, set}
-use Rattle.laws.specs.Choice.{if◌then◌else◌, if_yes, if_no}
+use Rattle.laws.specs.Choice.{when◌then◌else◌, if_yes, if_no}
 use Rattle.laws.proofs.Tests.{and_both, by_test, if_both}
 use Rattle.sync_corr.proofs.Laws.{dots_both}
 use Rattle.sync_corr.specs.Correlate.{both_of, ones_of, size_of}
@@ -58,11 +58,11 @@ module _ (r : Receiver) (a : Seen) (n : Nco) (s : SlotPhase) (q : Run) (last : L
     (es : a.step ≡ kept_of q last no_events) (eh : a.heard ≡ record { nco = n; phase = s; due = NoSlot }) where
   quiet-taken : taken_by r a r.back no_runs
       ≡ record { refusal = 0; receiver = record { front = record { nco = n; sync = record { win = a.win; run = q }; phase = pushed_in 9296 s }; back = r.back; points = r.points }; events = no_events; runs = no_runs }
-  unfolding taken_by after_by left_by phase_by kept_of kept_window loses_in is_lost no_events if◌then◌else◌
+  unfolding taken_by after_by left_by phase_by kept_of kept_window loses_in is_lost no_events when◌then◌else◌
   quiet-taken = rw (es, eh, le-leb 23 r.front.sync.run.t late)
 
   quiet-store : (store : List ℤ) → store_by r a store ≡ stored_in 9296 s (symbol_at a.win 0).i (symbol_at a.win 0).q store
-  unfolding store_by stored_by kept_of loses_in is_lost no_events if◌then◌else◌
+  unfolding store_by stored_by kept_of loses_in is_lost no_events when◌then◌else◌
   quiet-store store = rw (es, eh, le-leb 23 r.front.sync.run.t late)
 
   quiet-acc : (p : ℕ) (acc : List ℕ) → stored_of a.step.stores p acc ≡ set acc p last.level
@@ -216,17 +216,17 @@ unfolding roll_one
 rolled-within rows zi zq p x y e a b c = rw e (window_on 4096 x.win zi zq a b c)
 
 -- a turn of the loop
-pub goes_on_lem : (t : Bool) (n k e : ℕ) → e ≡ (if t then n else k) → k < e → t ≡ true
+pub goes_on_lem : (t : Bool) (n k e : ℕ) → e ≡ (when t then n else k) → k < e → t ≡ true
 goes_on_lem t n k e h l = by_test t (λ z. z) (λ z. absurd (omega (arith, l, h ∙ if_no t n k z)))
 
-pub end_most : (t : Bool) (n k e : ℕ) → e ≡ (if t then n else k) → k ≤ n → e ≤ n
+pub end_most : (t : Bool) (n k e : ℕ) → e ≡ (when t then n else k) → k ≤ n → e ≤ n
 end_most t n k e h l = rw h (if_both (λ (v : ℕ). v ≤ n) t n k (omega arith) l)
 
 pub tally_sum : (y : Tally) → tally_within y ≡ true → y.sum ≤ 2 ^ 61
 unfolding tally_within
 tally_sum y e = omega (arith, leb-true y.sum 34935435329536 (and_both (leb y.peak 3758114816 && leb y.place 9295) (leb y.sum 34935435329536) e).1)
 
-pub some_moved : (t : Bool) (n k e : ℕ) → e ≡ (if t then n else k) → e ≤ k → 1 ≤ n → (k ≡ 0 → t ≡ true) → 1 ≤ k
+pub some_moved : (t : Bool) (n k e : ℕ) → e ≡ (when t then n else k) → e ≤ k → 1 ≤ n → (k ≡ 0 → t ≡ true) → 1 ≤ k
 some_moved t n zero e h l m z = absurd (omega (arith, l, m, h ∙ if_yes t n 0 (z refl)))
 some_moved t n (suc k) e h l m z = omega arith
 
@@ -351,7 +351,7 @@ module _ (r : Receiver) (k i : ℕ) (x : Moving) (b : Block) (soft : List ℤ) (
   in-range-here = passed-in r k x e f (omega (arith, o.time, l))
 
   soon-none : soon_refusal here (length lent.acc) (length lent.store) (length lent.soft) input.f input.s (length input.table) ≡ 0
-  unfolding soon_refusal state_refusal next_of lent_by input_at if◌then◌else◌
+  unfolding soon_refusal state_refusal next_of lent_by input_at when◌then◌else◌
   soon-none =
       rw (eq-eqb (length x.acc) 9296 g.long, eq-eqb (length x.store) 18592 g.held, le-leb 44880 (length soft) g.buffer, g.first, g.second, eq-eqb (length b.table) 1024 g.cosines, in-range-here)
       (rw below)
@@ -403,7 +403,7 @@ module _ (r : Receiver) (k i : ℕ) (x : Moving) (b : Block) (soft : List ℤ) (
 -- ---- a stretch of them
 stand_quiet : (b : Block) (rest i : ℕ) (r n : Receiver) (l m : Lent) → symbol_answer r (input_at b i) l ≡ record { refusal = 0; receiver = n; events = no_events; runs = no_runs } →
     symbol_lent r (input_at b i) l ≡ m → stand_from b (suc rest) i r l ≡ stand_from b rest (i + 1) n m
-unfolding stand_from tells_any any_event is_nothing no_events no_runs no_run if◌then◌else◌
+unfolding stand_from tells_any any_event is_nothing no_events no_runs no_run when◌then◌else◌
 stand_quiet b rest i r n l m ea em = rw (ea, em)
 
 module _ (r : Receiver) (b : Block) (i m : ℕ) (acc : List ℕ) (store soft : List ℤ) (e : receiver_in_range r ≡ true) (o : Ahead r.front.sync.run (suc m))
@@ -463,13 +463,13 @@ calm_known r left m e h =
     let few = min (reach_of q - 1) left in
     by_test (receiver_in_range r)
     (λ a. by_test past
-    (λ b. absurd (h (e ∙ if_yes (receiver_in_range r) (if past then 0 else few) 0 a ∙ if_yes past 0 few b)))
+    (λ b. absurd (h (e ∙ if_yes (receiver_in_range r) (when past then 0 else few) 0 a ∙ if_yes past 0 few b)))
     (λ b.
-    let z : m ≡ few = e ∙ if_yes (receiver_in_range r) (if past then 0 else few) 0 a ∙ if_no past 0 few b in
+    let z : m ≡ few = e ∙ if_yes (receiver_in_range r) (when past then 0 else few) 0 a ∙ if_no past 0 few b in
     let k : 1 ≤ m = omega (arith, h) in
     let w = run-wide q (run_in r a) in
     (a, ahead q (run_ready q w b) w (omega (arith, z, k)) (suc m) (omega arith) (omega (arith, z, k)), omega (arith, z))))
-    (λ a. absurd (h (e ∙ if_no (receiver_in_range r) (if past then 0 else few) 0 a)))
+    (λ a. absurd (h (e ∙ if_no (receiver_in_range r) (when past then 0 else few) 0 a)))
 
 -- ---- the loop's results as a receiver's
 pub moves_from_lem : (r : Receiver) (bytes table rows : List ℤ) (acc : List ℕ) (store : List ℤ) (i p c k : ℕ) → p ≡ place_of 9296 r.front.sync.run.t → c ≡ place_in r.front.phase →

@@ -8,7 +8,7 @@ use borrow.Author.Tests.{eq-eqb, eqb-false, eqb-true, le-leb, leb-true, ne_eqb}
 use lib.Dec.{eqb, leb}
 use lib.IntN.{ℤ, pos}
 use lib.ListN.{get_or, length}
-use Rattle.laws.specs.Choice.{if◌then◌else◌, if_yes, if_no}
+use Rattle.laws.specs.Choice.{when◌then◌else◌, if_yes, if_no}
 use Rattle.laws.proofs.Tests.{and_both, by_test, if_both, if_either, never}
 use Rattle.sync_corr.specs.Correlate.{ones_of}
 use Rattle.sync_corr.specs.Rows.{rows_of}
@@ -39,7 +39,7 @@ module _ (r : Receiver) (x : Input) (l : Lent) (e : eqb (symbol_answer r x l).re
       (λ t. t)
     where
       yes : eqb (symbol_refusal r x l) 0 ≡ true → eqb (symbol_answer r x l).refusal 0 ≡ true
-      yes t = unfold symbol_answer if◌then◌else◌ in rw t
+      yes t = unfold symbol_answer when◌then◌else◌ in rw t
 
   refused-answer : symbol_answer r x l ≡ record { refusal = symbol_refusal r x l; receiver = r; events = no_events; runs = no_runs }
   unfolding symbol_answer
@@ -52,13 +52,13 @@ module _ (r : Receiver) (x : Input) (l : Lent) (e : eqb (symbol_answer r x l).re
 -- ---- a turn of one symbol
 refused-told : (a : Answer) (i : ℕ) (l m : Lent) (r : Receiver) (b : Block) (n : ℕ) → eqb a.refusal 0 ≡ false → a.receiver ≡ r → a.events ≡ no_events → a.runs ≡ no_runs → m ≡ l →
     rest_by b n (told_by a i) m ≡ record { refusal = a.refusal; fed = quiet_at i r l }
-unfolding rest_by told_by quiet_at if◌then◌else◌
+unfolding rest_by told_by quiet_at when◌then◌else◌
 refused-told a i l m r b n e er ee eu em = rw (e, er, ee, eu, em)
 
 taken_told : (a : Answer) (i k n : ℕ) (m : Lent) (b : Block) → eqb a.refusal 0 ≡ true → n - (i + 1) ≡ k →
     rest_by b n (told_by a i) m
-    ≡ (if tells_any a then record { refusal = 0; fed = record { used = i + 1; receiver = a.receiver; lent = m; events = a.events; runs = a.runs } } else stand_from b k (i + 1) a.receiver m)
-unfolding rest_by told_by if◌then◌else◌
+    ≡ (when tells_any a then record { refusal = 0; fed = record { used = i + 1; receiver = a.receiver; lent = m; events = a.events; runs = a.runs } } else stand_from b k (i + 1) a.receiver m)
+unfolding rest_by told_by when◌then◌else◌
 taken_told a i k n m b e h = rw (e, h)
 
 pub single_stands : (b : Block) (n i : ℕ) (r : Receiver) (l : Lent) → i < n →
@@ -87,7 +87,7 @@ told_leads a n i h =
 
 -- ---- a turn that a receiver's state stops
 pub state_soon : (r : Receiver) (acc store soft : ℕ) (f s : List ℤ) (table : ℕ) → Stands acc store soft f s table → soon_refusal r acc store soft f s table ≡ state_refusal r
-unfolding soon_refusal if◌then◌else◌
+unfolding soon_refusal when◌then◌else◌
 state_soon r acc store soft f s table g = rw (eq-eqb acc 9296 g.long, eq-eqb store 18592 g.held, le-leb 44880 soft g.buffer, g.first, g.second, eq-eqb table 1024 g.cosines)
 
 told-stopped : (r : Receiver) (i k n : ℕ) → n ≡ k → (k ≡ 0 → ⊥) → told_by (refused_by n r) i ≡ stopped_at k r i
@@ -123,7 +123,7 @@ used-from b (suc k) i r l =
     (omega arith)
 
 stand_fed : (b : Block) (k i : ℕ) (r : Receiver) (l : Lent) → (stand_from b k i r l).fed ≡ fed_from b k i r l
-unfolding stand_from fed_from if◌then◌else◌
+unfolding stand_from fed_from when◌then◌else◌
 stand_fed b zero i r l = refl
 stand_fed b (suc k) i r l =
     let a = symbol_answer r (input_at b i) l in
@@ -134,8 +134,8 @@ stand_fed b (suc k) i r l =
 
 -- the number, if no symbol was used
 first-number : (b : Block) (k : ℕ) (r : Receiver) (l : Lent) →
-    (if eqb (fed_from b (suc k) 0 r l).used 0 then (stand_from b (suc k) 0 r l).refusal else 0) ≡ (symbol_answer r (input_at b 0) l).refusal
-unfolding stand_from fed_from quiet_at if◌then◌else◌
+    (when eqb (fed_from b (suc k) 0 r l).used 0 then (stand_from b (suc k) 0 r l).refusal else 0) ≡ (symbol_answer r (input_at b 0) l).refusal
+unfolding stand_from fed_from quiet_at when◌then◌else◌
 first-number b k r l =
     let a = symbol_answer r (input_at b 0) l in
     let m = symbol_lent r (input_at b 0) l in
@@ -149,17 +149,17 @@ first-number b k r l =
     (λ t. rw t)
 
 -- ---- the turns
-pub rest_on : (b : Block) (n i e : ℕ) (t : Turn) (l : Lent) → i ≡ t.used → e ≡ (if t.done then t.used else n) → i < e → rest_by b n t l ≡ stand_from b (n - i) i t.receiver l
+pub rest_on : (b : Block) (n i e : ℕ) (t : Turn) (l : Lent) → i ≡ t.used → e ≡ (when t.done then t.used else n) → i < e → rest_by b n t l ≡ stand_from b (n - i) i t.receiver l
 unfolding rest_by
 rest_on b n i e t l u h k =
     by_test t.done
     (λ d. absurd (omega (arith, u, k, h ∙ if_yes t.done t.used n d)))
     (λ d. if_no t.done _ _ d ∙ rw u)
 
-pub not_done : (n i e : ℕ) (t : Turn) → i ≡ t.used → e ≡ (if t.done then t.used else n) → i < e → t.done ≡ false
+pub not_done : (n i e : ℕ) (t : Turn) → i ≡ t.used → e ≡ (when t.done then t.used else n) → i < e → t.done ≡ false
 not_done n i e t u h k = by_test t.done (λ d. absurd (omega (arith, u, k, h ∙ if_yes t.done t.used n d))) (λ d. d)
 
-pub rest_end : (b : Block) (n i e : ℕ) (t : Turn) (l : Lent) → i ≡ t.used → i ≤ n → e ≡ (if t.done then t.used else n) → e ≤ i → rest_by b t.used t l ≡ rest_by b n t l
+pub rest_end : (b : Block) (n i e : ℕ) (t : Turn) (l : Lent) → i ≡ t.used → i ≤ n → e ≡ (when t.done then t.used else n) → e ≤ i → rest_by b t.used t l ≡ rest_by b n t l
 unfolding rest_by
 rest_end b n i e t l u m h k =
     by_test t.done
@@ -170,7 +170,7 @@ rest_end b n i e t l u m h k =
 
 -- ---- the whole feed, from what stands at its end
 unfoldable stand_answer : Stand → Answered
-stand_answer x = record { refusal = if eqb x.fed.used 0 then x.refusal else 0; used = x.fed.used; receiver = x.fed.receiver; events = x.fed.events; runs = x.fed.runs }
+stand_answer x = record { refusal = when eqb x.fed.used 0 then x.refusal else 0; used = x.fed.used; receiver = x.fed.receiver; events = x.fed.events; runs = x.fed.runs }
 
 stand_none : (b : Block) (u i : ℕ) (r : Receiver) (l : Lent) → stand_from b (u - u) i r l ≡ record { refusal = 0; fed = quiet_at i r l }
 unfolding stand_from
@@ -243,7 +243,7 @@ module _ (b : Block) (n i : ℕ) (r : Receiver) (acc : List ℕ) (store soft : L
       on : stand_from b (n - (i + k)) (i + k) v (record { acc = acc'; store = store'; soft = soft }) ≡ stand_from b (n - i) i r (record { acc = acc; store = store; soft = soft }) →
           rest_by b n (record { refusal = 0; used = i + k; receiver = v; events = es; runs = g; done = false }) (record { acc = acc'; store = store'; soft = soft })
           ≡ stand_from b (n - i) i r (record { acc = acc; store = store; soft = soft })
-      on y = unfold rest_by if◌then◌else◌ in y
+      on y = unfold rest_by when◌then◌else◌ in y
 
 pub both_end : (b : Block) (n i k : ℕ) (r v : Receiver) (l m p : Lent) (t : Turn) → stand_from b (n - (i + k)) (i + k) v m ≡ stand_from b (n - i) i r l →
     (rest_by b n t p ≡ stand_from b (n - (i + k)) (i + k) v m) × (Leads n (i + k) t) → (rest_by b n t p ≡ stand_from b (n - i) i r l) × (Leads n i t)
@@ -253,7 +253,7 @@ both_end b n i k r v l m p t e h =
     (h.0 ∙ e, record { from = omega (arith, a); most = w.most; on = λ d. let q = w.on d in omega (arith, q) })
 
 pub first_rest : (b : Block) (n : ℕ) (t : Turn) (l : Lent) → t.used ≡ 0 → t.done ≡ false → rest_by b n t l ≡ stand_from b n 0 t.receiver l
-unfolding rest_by if◌then◌else◌
+unfolding rest_by when◌then◌else◌
 first_rest b n t l u d = let z : n - 0 ≡ n = omega arith in rw (d, u, z)
 
 -- ---- the whole feed
@@ -261,9 +261,9 @@ pub standing_known : (r : Receiver) (acc store soft : ℕ) (f s : List ℤ) (tab
 unfolding standing_by
 standing_known r acc store soft f s table h =
     let fit = eqb acc 9296 && eqb store 18592 && leb 44880 soft in
-    let n6 : ℕ = if receiver_in_range r then 0 else 6 in
-    let n3 : ℕ = if eqb table 1024 then n6 else 3 in
-    let n2 : ℕ = if ones_of f && ones_of s then n3 else 2 in
+    let n6 : ℕ = when receiver_in_range r then 0 else 6 in
+    let n3 : ℕ = when eqb table 1024 then n6 else 3 in
+    let n2 : ℕ = when ones_of f && ones_of s then n3 else 2 in
     by_test fit
     (λ a. let h1 : n2 ≡ 0 = sym (if_yes fit n2 1 a) ∙ h in
     by_test (ones_of f && ones_of s)
@@ -306,13 +306,13 @@ module _ (r : Receiver) (b : Block) (l : Lent) where
 
   -- ---- it goes: the number at its end is the refusal
   module _ (z : standing ≡ 0) where
-    number : (if eqb (fed_from b (symbols_of b) 0 r l).used 0 then (stand_from b (symbols_of b) 0 r l).refusal else 0) ≡ feed_refusal r b l
+    number : (when eqb (fed_from b (symbols_of b) 0 r l).used 0 then (stand_from b (symbols_of b) 0 r l).refusal else 0) ≡ feed_refusal r b l
     number = go (symbols_of b) refl
       where
-        none : (k : ℕ) → k ≡ 0 → (if eqb (fed_from b k 0 r l).used 0 then (stand_from b k 0 r l).refusal else 0) ≡ 0
+        none : (k : ℕ) → k ≡ 0 → (when eqb (fed_from b k 0 r l).used 0 then (stand_from b k 0 r l).refusal else 0) ≡ 0
         none k e = unfold stand_from in rw e (if_both (λ (n : ℕ). n ≡ 0) _ 0 0 refl refl)
 
-        go : (k : ℕ) → symbols_of b ≡ k → (if eqb (fed_from b k 0 r l).used 0 then (stand_from b k 0 r l).refusal else 0) ≡ feed_refusal r b l
+        go : (k : ℕ) → symbols_of b ≡ k → (when eqb (fed_from b k 0 r l).used 0 then (stand_from b k 0 r l).refusal else 0) ≡ feed_refusal r b l
         go zero e = none zero refl ∙ sym (none_is e ∙ standing-is ∙ z)
         go (suc k) e = first-number b k r l ∙ sym (first-is k e)
 
@@ -337,13 +337,13 @@ module _ (r : Receiver) (b : Block) (l : Lent) where
         (answer_stand b t m ∙ ap stand_answer e ∙ whole s (stand_fed b (length b.bytes / 2) 0 r l) feed_is number, ap (λ (x : Lent). x.acc) u, ap (λ (x : Lent). x.store) u, ap (λ (x : Lent). x.soft) u)
       where
         whole : (s : Stand) → s.fed ≡ fed_from b (symbols_of b) 0 r l → feed_of r b l ≡ fed_from b (symbols_of b) 0 r l →
-            (if eqb (fed_from b (symbols_of b) 0 r l).used 0 then s.refusal else 0) ≡ feed_refusal r b l → stand_answer s ≡ feed_answer r b l
+            (when eqb (fed_from b (symbols_of b) 0 r l).used 0 then s.refusal else 0) ≡ feed_refusal r b l → stand_answer s ≡ feed_answer r b l
         whole s p q n = unfold stand_answer feed_answer in rw (p, q, n)
 
   -- ---- it is refused
-  same-refusal : (a d e f : Bool) (x : ℕ) → let n : ℕ = if a then if d then if e then if f then 0 else 6 else 3 else 2 else 1 in (n ≡ 0 → ⊥) →
-      (if a then if d then if e then if f then x else 6 else 3 else 2 else 1) ≡ n
-  unfolding if◌then◌else◌
+  same-refusal : (a d e f : Bool) (x : ℕ) → let n : ℕ = when a then when d then when e then when f then 0 else 6 else 3 else 2 else 1 in (n ≡ 0 → ⊥) →
+      (when a then when d then when e then when f then x else 6 else 3 else 2 else 1) ≡ n
+  unfolding when◌then◌else◌
   same-refusal false d e f x h = refl
   same-refusal true false e f x h = refl
   same-refusal true true false f x h = refl
@@ -355,11 +355,11 @@ module _ (r : Receiver) (b : Block) (l : Lent) where
   first-refused h = same-refusal _ _ _ _ _ h
 
   answer-refused : (n : ℕ) → symbol_refusal r (input_at b 0) l ≡ n → (n ≡ 0 → ⊥) → (symbol_answer r (input_at b 0) l).refusal ≡ n
-  unfolding symbol_answer if◌then◌else◌
+  unfolding symbol_answer when◌then◌else◌
   answer-refused n e h = rw (e, ne_eqb n 0 h)
 
   pub feed-refused : (n : ℕ) → n ≡ standing → (n ≡ 0 → ⊥) → (refused_feed n r ≡ feed_answer r b l) × ((feed_of r b l).lent ≡ l)
-  unfolding feed_answer feed_of refused_feed quiet_at if◌then◌else◌
+  unfolding feed_answer feed_of refused_feed quiet_at when◌then◌else◌
   feed-refused n e h =
       let k : standing ≡ 0 → ⊥ = λ q. h (e ∙ q) in
       let g : feed_refusal r b l ≡ n = refusal_is k in
@@ -369,7 +369,7 @@ module _ (r : Receiver) (b : Block) (l : Lent) where
       refusal_is k = unfold feed_refusal in if_both (λ (v : ℕ). v ≡ n) (eqb (symbols_of b) 0) _ _ (standing-is ∙ sym e) (answer-refused n (first-refused k ∙ sym e) h)
 
 -- ---- the loop over the turns
-pub turn_less : (n i e d : ℕ) (t u : Turn) → i ≡ t.used → e ≡ (if t.done then t.used else n) → i < e → Leads n i u → d ≡ (if u.done then u.used else n) → d - u.used < e - i
+pub turn_less : (n i e d : ℕ) (t u : Turn) → i ≡ t.used → e ≡ (when t.done then t.used else n) → i < e → Leads n i u → d ≡ (when u.done then u.used else n) → d - u.used < e - i
 turn_less n i e d t u ei ee l w ed =
     by_test t.done
     (λ y. absurd (omega (arith, l, ei, ee ∙ if_yes t.done t.used n y)))
@@ -379,7 +379,7 @@ turn_less n i e d t u ei ee l w ed =
     (λ z. let q = ed ∙ if_yes u.done u.used n z in omega (arith, q, l))
     (λ z. let q = ed ∙ if_no u.done u.used n z in omega (arith, q, l, g, w.on z, w.most)))
 
-pub end_within : (n d i : ℕ) (u : Turn) → Leads n i u → d ≡ (if u.done then u.used else n) → d ≤ n
+pub end_within : (n d i : ℕ) (u : Turn) → Leads n i u → d ≡ (when u.done then u.used else n) → d ≤ n
 end_within n d i u w e = rw e (if_both (λ (v : ℕ). v ≤ n) u.done u.used n w.most (omega arith))
 
 pub stands_same : (a b c x y z : ℕ) (f s : List ℤ) (t : ℕ) → x ≡ a → y ≡ b → z ≡ c → Stands a b c f s t → Stands x y z f s t

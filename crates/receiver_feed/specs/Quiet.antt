@@ -1,7 +1,7 @@
 -- How the code goes through symbols that tell nothing: window, figures, carrier phase, one accumulator and one place of the slot store change. That this is
 -- what a symbol's call does is a law (proofs/Calm.antt).
 use Rattle.std.specs.Prelude.{ℕ, zero, suc, ◌+◌, ◌*◌, ◌<◌, min, Bool, true, List, ◌≡◌, ltb, ℤ, pos, get_or, set}
-use Rattle.laws.specs.Choice.{if◌then◌else◌}
+use Rattle.laws.specs.Choice.{when◌then◌else◌}
 use Rattle.angles.specs.Angles.{turned_by}
 use Rattle.sync_lock.specs.declared.Tally.{Tally}
 use Rattle.sync_step.specs.Step.{place_of}
@@ -27,7 +27,7 @@ moving w y a s p = record { win = w; tally = y; acc = a; store = s; phase = p }
 
 -- a symbol at place c of the slot store; past the 9,296th it is ignored
 unfoldable pub kept_at : ℕ → ℤ → ℤ → List ℤ → List ℤ
-kept_at c i q store = if ltb c 9296 then set (set store (2 * c) i) (2 * c + 1) q else store
+kept_at c i q store = when ltb c 9296 then set (set store (2 * c) i) (2 * c + 1) q else store
 
 -- what the loop is lent: bytes, carrier table, the rows of the words, the carrier step
 pub record Course : Type 0 where

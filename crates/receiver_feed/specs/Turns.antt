@@ -1,6 +1,6 @@
 -- A feed goes by turns: a stretch of symbols that tell nothing, or one symbol.
 use Rattle.std.specs.Prelude.{ℕ, zero, suc, ◌+◌, ◌-◌, ◌*◌, ◌^◌, ◌<◌, ◌≤◌, min, Bool, true, false, ◌&&◌, List, ◌≡◌, eqb, leb, ℤ, length}
-use Rattle.laws.specs.Choice.{if◌then◌else◌}
+use Rattle.laws.specs.Choice.{when◌then◌else◌}
 use Rattle.sync_corr.specs.Correlate.{ones_of}
 use Rattle.sync_step.specs.Events.{no_events}
 use Rattle.sync_block.specs.Reach.{reach_of}
@@ -23,8 +23,8 @@ stand_from b zero i r l = record { refusal = 0; fed = quiet_at i r l }
 stand_from b (suc k) i r l =
     let a = symbol_answer r (input_at b i) l in
     let m = symbol_lent r (input_at b i) l in
-    if eqb a.refusal 0
-    then if tells_any a
+    when eqb a.refusal 0
+    then when tells_any a
     then record { refusal = 0; fed = record { used = i + 1; receiver = a.receiver; lent = m; events = a.events; runs = a.runs } }
     else stand_from b k (i + 1) a.receiver m
     else record { refusal = a.refusal; fed = quiet_at i r l }
@@ -33,14 +33,14 @@ stand_from b (suc k) i r l =
 -- what comes of a feed of n symbols after a turn
 unfoldable pub rest_by : Block → ℕ → Turn → Lent → Stand
 rest_by b n t l =
-    if t.done
+    when t.done
     then record { refusal = t.refusal; fed = record { used = t.used; receiver = t.receiver; lent = l; events = t.events; runs = t.runs } }
     else stand_from b (n - t.used) t.used t.receiver l
 
 -- symbol i was given to its call
 unfoldable pub told_by : Answer → ℕ → Turn
 told_by a i =
-    if eqb a.refusal 0
+    when eqb a.refusal 0
     then record { refusal = 0; used = i + 1; receiver = a.receiver; events = a.events; runs = a.runs; done = tells_any a }
     else record { refusal = a.refusal; used = i; receiver = a.receiver; events = a.events; runs = a.runs; done = true }
 
@@ -50,7 +50,7 @@ stopped_at n r i = record { refusal = n; used = i; receiver = r; events = no_eve
 
 -- how many of the next symbols tell nothing for sure, of those that are left: before the period's last position and the locked offset, in a receiver in range
 unfoldable pub calm_of : Receiver → ℕ → ℕ
-calm_of r left = if receiver_in_range r then if leb (2 ^ 62) (next_of r) then 0 else min (reach_of r.front.sync.run - 1) left else 0
+calm_of r left = when receiver_in_range r then when leb (2 ^ 62) (next_of r) then 0 else min (reach_of r.front.sync.run - 1) left else 0
 
 -- a turn leads on: it stops the feed, or uses a symbol
 pub record Leads (n i : ℕ) (t : Turn) : Type 0 where
@@ -62,8 +62,8 @@ pub record Leads (n i : ℕ) (t : Turn) : Type 0 where
 -- 1, 2, 3 and 6 by the lengths: `standing_refusal`
 unfoldable pub standing_by : Receiver → ℕ → ℕ → ℕ → List ℤ → List ℤ → ℕ → ℕ
 standing_by r acc store soft f s table =
-    if eqb acc 9296 && eqb store 18592 && leb 44880 soft
-    then if ones_of f && ones_of s then if eqb table 1024 then if receiver_in_range r then 0 else 6 else 3 else 2
+    when eqb acc 9296 && eqb store 18592 && leb 44880 soft
+    then when ones_of f && ones_of s then when eqb table 1024 then when receiver_in_range r then 0 else 6 else 3 else 2
     else 1
 
 -- what is known where that is 0
@@ -78,8 +78,8 @@ pub record Stands (acc store soft : ℕ) (f s : List ℤ) (table : ℕ) : Type 0
 -- the answer after the last turn
 unfoldable pub answer_of : Turn → Answered
 answer_of t =
-    if t.done
-    then record { refusal = if eqb t.used 0 then t.refusal else 0; used = t.used; receiver = t.receiver; events = t.events; runs = t.runs }
+    when t.done
+    then record { refusal = when eqb t.used 0 then t.refusal else 0; used = t.used; receiver = t.receiver; events = t.events; runs = t.runs }
     else record { refusal = 0; used = t.used; receiver = t.receiver; events = no_events; runs = no_runs }
 
 unfoldable pub refused_feed : ℕ → Receiver → Answered

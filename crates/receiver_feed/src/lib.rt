@@ -63,7 +63,7 @@ pub fn feed(
     store: &mut [i16],
     soft: &mut [i8],
 ) -> Fed
-    ensures { (result ≡ feed_answer r (record { bytes = bytes.entry.now; f = f; s = s; table = table.now }) (record { acc = acc.entry.now; store = store.old; soft = soft.old })) × (acc.exit.now ≡ (feed_of r (record { bytes = bytes.entry.now; f = f; s = s; table = table.now }) (record { acc = acc.entry.now; store = store.old; soft = soft.old })).lent.acc) × (store.new ≡ (feed_of r (record { bytes = bytes.entry.now; f = f; s = s; table = table.now }) (record { acc = acc.entry.now; store = store.old; soft = soft.old })).lent.store) × (soft.new ≡ (feed_of r (record { bytes = bytes.entry.now; f = f; s = s; table = table.now }) (record { acc = acc.entry.now; store = store.old; soft = soft.old })).lent.soft) }
+    ensures { (result ≡ feed_answer r (record { bytes = bytes.now; f = f; s = s; table = table.now }) (record { acc = acc.old; store = store.old; soft = soft.old })) × (acc.new ≡ (feed_of r (record { bytes = bytes.now; f = f; s = s; table = table.now }) (record { acc = acc.old; store = store.old; soft = soft.old })).lent.acc) × (store.new ≡ (feed_of r (record { bytes = bytes.now; f = f; s = s; table = table.now }) (record { acc = acc.old; store = store.old; soft = soft.old })).lent.store) × (soft.new ≡ (feed_of r (record { bytes = bytes.now; f = f; s = s; table = table.now }) (record { acc = acc.old; store = store.old; soft = soft.old })).lent.soft) }
 {
     let n = ready::standing(r, acc.len(), store.len(), soft.len(), &f, &s, table.len());
     if n == 0 {

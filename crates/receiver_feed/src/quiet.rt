@@ -1,6 +1,6 @@
 // Symbols that tell nothing, in a loop. The rows come by a reference (docs/BENCHMARKS.md).
 ghost use Rattle.std.specs.Prelude.{◌≡◌, true, ℕ, ◌+◌, ◌*◌, ◌≤◌, ◌<◌, length};
-ghost use Rattle.laws.specs.Choice.{if◌then◌else◌};
+ghost use Rattle.laws.specs.Choice.{when◌then◌else◌};
 ghost use Rattle.sync_corr.specs.Rows.{SmallRows};
 ghost use Rattle.receiver_bounds.specs.Bounds.{all_within, tally_within};
 ghost use Rattle.receiver_feed.specs.Quiet.{Fits, kept_at, moves, moving, place_in};
@@ -22,7 +22,7 @@ fn keep(store: &mut [i16], c: usize, i: i16, q: i16)
 
 // n, or k if the figures are out of range.
 fn up_to(y: Tally, k: usize, n: usize) -> usize
-    ensures { result ≡ (if tally_within y then n else k) }
+    ensures { result ≡ (when tally_within y then n else k) }
 {
     if receiver_bounds::plain::tally_within(y) {
         n
@@ -49,7 +49,7 @@ fn quiet(
     store: &mut [i16],
 ) -> Moved
     requires { (length win.old ≡ 48) × (length acc.old ≡ 9296) × (length store.old ≡ 18592) × (length table.now ≡ 1024) × (2 * (i + n) ≤ length bytes.now) × (p + n ≤ 9296) × (c ≤ 9296) × (1 ≤ n) × (SmallRows rows.now) × (all_within 4096 win.old ≡ true) × (tally_within y0 ≡ true) }
-    ensures { (moving win.new result.tally acc.new store.new result.phase ≡ moves (record { bytes = bytes.entry.now; table = table.now; rows = rows.now; freq = freq }) i p c result.taken (moving win.old y0 acc.old store.old phase)) × (1 ≤ result.taken) × (result.taken ≤ n) × ((j : ℕ) → j < result.taken → Fits (moves (record { bytes = bytes.entry.now; table = table.now; rows = rows.now; freq = freq }) i p c j (moving win.old y0 acc.old store.old phase))) × (all_within 4096 win.new ≡ true) }
+    ensures { (moving win.new result.tally acc.new store.new result.phase ≡ moves (record { bytes = bytes.now; table = table.now; rows = rows.now; freq = freq }) i p c result.taken (moving win.old y0 acc.old store.old phase)) × (1 ≤ result.taken) × (result.taken ≤ n) × ((j : ℕ) → j < result.taken → Fits (moves (record { bytes = bytes.now; table = table.now; rows = rows.now; freq = freq }) i p c j (moving win.old y0 acc.old store.old phase))) × (all_within 4096 win.new ≡ true) }
 {
     let mut y = y0;
     let mut a = phase;
@@ -87,7 +87,7 @@ pub(crate) fn moved(
     store: &mut [i16],
 ) -> Moved
     requires { (length win.old ≡ 48) × (length acc.old ≡ 9296) × (length store.old ≡ 18592) × (length table.now ≡ 1024) × (2 * (i + n) ≤ length bytes.now) × (p + n ≤ 9296) × (place_in s ≤ 9296) × (1 ≤ n) × (SmallRows rows.now) × (all_within 4096 win.old ≡ true) × (tally_within y0 ≡ true) }
-    ensures { (moving win.new result.tally acc.new store.new result.phase ≡ moves (record { bytes = bytes.entry.now; table = table.now; rows = rows.now; freq = freq }) i p (place_in s) result.taken (moving win.old y0 acc.old store.old phase)) × (1 ≤ result.taken) × (result.taken ≤ n) × ((j : ℕ) → j < result.taken → Fits (moves (record { bytes = bytes.entry.now; table = table.now; rows = rows.now; freq = freq }) i p (place_in s) j (moving win.old y0 acc.old store.old phase))) × (all_within 4096 win.new ≡ true) }
+    ensures { (moving win.new result.tally acc.new store.new result.phase ≡ moves (record { bytes = bytes.now; table = table.now; rows = rows.now; freq = freq }) i p (place_in s) result.taken (moving win.old y0 acc.old store.old phase)) × (1 ≤ result.taken) × (result.taken ≤ n) × ((j : ℕ) → j < result.taken → Fits (moves (record { bytes = bytes.now; table = table.now; rows = rows.now; freq = freq }) i p (place_in s) j (moving win.old y0 acc.old store.old phase))) × (all_within 4096 win.new ≡ true) }
 {
     match s {
         SlotPhase::Idle => quiet(

@@ -1,6 +1,6 @@
 // A feed by turns: a stretch of symbols that tell nothing, or one symbol.
 ghost use Rattle.std.specs.Prelude.{◌≡◌, true, ◌+◌, ◌-◌, ◌*◌, ◌/◌, ◌≤◌, ◌<◌, ◌^◌, length};
-ghost use Rattle.laws.specs.Choice.{if◌then◌else◌};
+ghost use Rattle.laws.specs.Choice.{when◌then◌else◌};
 ghost use Rattle.sync_corr.specs.Rows.{rows_of};
 ghost use Rattle.receiver_bounds.specs.Bounds.{tally_within};
 ghost use Rattle.receiver.specs.Ranges.{receiver_in_range};
@@ -67,7 +67,7 @@ fn single(
     soft: &mut [i8],
 ) -> Turn
     requires { (i < n) × (n ≡ length bytes.now / 2) × (Stands (length acc.old) (length store.old) (length soft.old) f.now s.now (length table.now)) × (receiver_in_range r ≡ tally_within r.front.sync.run.tally) }
-    ensures { (rest_by (record { bytes = bytes.entry.now; f = f.now; s = s.now; table = table.now }) n result (record { acc = acc.exit.now; store = store.new; soft = soft.new }) ≡ stand_from (record { bytes = bytes.entry.now; f = f.now; s = s.now; table = table.now }) (n - i) i r (record { acc = acc.entry.now; store = store.old; soft = soft.old })) × (Leads n i result) }
+    ensures { (rest_by (record { bytes = bytes.now; f = f.now; s = s.now; table = table.now }) n result (record { acc = acc.new; store = store.new; soft = soft.new }) ≡ stand_from (record { bytes = bytes.now; f = f.now; s = s.now; table = table.now }) (n - i) i r (record { acc = acc.old; store = store.old; soft = soft.old })) × (Leads n i result) }
 {
     let k = ready::refusal(r);
     if k == 0 {
@@ -104,7 +104,7 @@ fn turn(
     soft: &mut [i8],
 ) -> Turn
     requires { (i < n) × (n ≡ length bytes.now / 2) × (rows.now ≡ rows_of f.now s.now) × (Stands (length acc.old) (length store.old) (length soft.old) f.now s.now (length table.now)) × (receiver_in_range r ≡ true) }
-    ensures { (rest_by (record { bytes = bytes.entry.now; f = f.now; s = s.now; table = table.now }) n result (record { acc = acc.exit.now; store = store.new; soft = soft.new }) ≡ stand_from (record { bytes = bytes.entry.now; f = f.now; s = s.now; table = table.now }) (n - i) i r (record { acc = acc.entry.now; store = store.old; soft = soft.old })) × (Leads n i result) }
+    ensures { (rest_by (record { bytes = bytes.now; f = f.now; s = s.now; table = table.now }) n result (record { acc = acc.new; store = store.new; soft = soft.new }) ≡ stand_from (record { bytes = bytes.now; f = f.now; s = s.now; table = table.now }) (n - i) i r (record { acc = acc.old; store = store.old; soft = soft.old })) × (Leads n i result) }
 {
     let left = n - i;
     let m = ready::calm(r, left);
@@ -143,7 +143,7 @@ fn next(
     soft: &mut [i8],
 ) -> Turn
     requires { (i < n) × (n ≡ length bytes.now / 2) × (rows.now ≡ rows_of f.now s.now) × (Stands (length acc.old) (length store.old) (length soft.old) f.now s.now (length table.now)) × (i ≡ 0 → receiver_in_range r ≡ true) }
-    ensures { (rest_by (record { bytes = bytes.entry.now; f = f.now; s = s.now; table = table.now }) n result (record { acc = acc.exit.now; store = store.new; soft = soft.new }) ≡ stand_from (record { bytes = bytes.entry.now; f = f.now; s = s.now; table = table.now }) (n - i) i r (record { acc = acc.entry.now; store = store.old; soft = soft.old })) × (Leads n i result) }
+    ensures { (rest_by (record { bytes = bytes.now; f = f.now; s = s.now; table = table.now }) n result (record { acc = acc.new; store = store.new; soft = soft.new }) ≡ stand_from (record { bytes = bytes.now; f = f.now; s = s.now; table = table.now }) (n - i) i r (record { acc = acc.old; store = store.old; soft = soft.old })) × (Leads n i result) }
 {
     if ready::still(r, i) {
         turn(r, i, n, bytes, f, s, rows, table, acc, store, soft)
@@ -154,7 +154,7 @@ fn next(
 
 // n, or where a turn stops the feed.
 fn until(t: Turn, n: usize) -> usize
-    ensures { result ≡ (if t.done then t.used else n) }
+    ensures { result ≡ (when t.done then t.used else n) }
 {
     let d = t.done;
     let u = t.used;
@@ -174,7 +174,7 @@ pub(crate) fn all(
     soft: &mut [i8],
 ) -> Turn
     requires { (rows.now ≡ rows_of f.now s.now) × (Stands (length acc.old) (length store.old) (length soft.old) f.now s.now (length table.now)) × (receiver_in_range r ≡ true) }
-    ensures { rest_by (record { bytes = bytes.entry.now; f = f.now; s = s.now; table = table.now }) result.used result (record { acc = acc.exit.now; store = store.new; soft = soft.new }) ≡ stand_from (record { bytes = bytes.entry.now; f = f.now; s = s.now; table = table.now }) (length bytes.entry.now / 2) 0 r (record { acc = acc.entry.now; store = store.old; soft = soft.old }) }
+    ensures { rest_by (record { bytes = bytes.now; f = f.now; s = s.now; table = table.now }) result.used result (record { acc = acc.new; store = store.new; soft = soft.new }) ≡ stand_from (record { bytes = bytes.now; f = f.now; s = s.now; table = table.now }) (length bytes.now / 2) 0 r (record { acc = acc.old; store = store.old; soft = soft.old }) }
 {
     let n = bytes.len() / 2;
     let mut t = Turn {

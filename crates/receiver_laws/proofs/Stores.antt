@@ -1,7 +1,7 @@
 -- A symbol's call does not see what its slot store holds beyond the held slot's symbols. Assumes nothing.
 use Prim.Native.Nat.{ℕ, zero, suc, ◌+◌, ◌<◌, ◌≤◌}
 use Rattle.laws.proofs.Tests.{by_test, if_ap}
-use Rattle.laws.specs.Choice.{if_no, if_yes, if◌then◌else◌}
+use Rattle.laws.specs.Choice.{if_no, if_yes, when◌then◌else◌}
 use Rattle.laws.specs.Ranges.{firsts}
 use Rattle.phase.specs.declared.Due.{Due}
 use Rattle.phase.specs.declared.Due.TheVariants.{Nothing as NoSlot, Slot}
@@ -112,8 +112,8 @@ module _ (r : Receiver) (x : Input) (acc : List ℕ) (soft a b : List ℤ) (g : 
   agree-heads (untouched p d) = rw p g.held
   agree-heads (begun k) = rw k.phase (agree_begun k.last a b)
 
-  agree_left : Agree (left 9296 r x la).front.phase (if enough 9296 r x la then stored_in 9296 (heads 9296 r x la).phase (back23 9296 r x la).i (back23 9296 r x la).q a else a)
-      (if enough 9296 r x lb then stored_in 9296 (heads 9296 r x lb).phase (back23 9296 r x lb).i (back23 9296 r x lb).q b else b)
+  agree_left : Agree (left 9296 r x la).front.phase (when enough 9296 r x la then stored_in 9296 (heads 9296 r x la).phase (back23 9296 r x la).i (back23 9296 r x la).q a else a)
+      (when enough 9296 r x lb then stored_in 9296 (heads 9296 r x lb).phase (back23 9296 r x lb).i (back23 9296 r x lb).q b else b)
   unfolding left enough heads synced rotated back23 window
   agree_left =
       let s = (heads 9296 r x la).phase in
@@ -138,8 +138,8 @@ module _ (r : Receiver) (x : Input) (acc : List ℕ) (soft a b : List ℤ) (g : 
       let l = left 9296 r x la in
       let ya = back23 9296 r x la in
       let yb = back23 9296 r x lb in
-      let u = if enough 9296 r x la then stored_in 9296 (heads 9296 r x la).phase ya.i ya.q a else a in
-      let v = if enough 9296 r x lb then stored_in 9296 (heads 9296 r x lb).phase yb.i yb.q b else b in
+      let u = when enough 9296 r x la then stored_in 9296 (heads 9296 r x la).phase ya.i ya.q a else a in
+      let v = when enough 9296 r x lb then stored_in 9296 (heads 9296 r x lb).phase yb.i yb.q b else b in
       by_test q
       (λ t. rw (if_yes q s l t, if_yes q a u t, if_yes q b v t) (record { first = g.first; second = g.second; held = tt }))
       (λ t. rw (if_no q s l t, if_no q a u t, if_no q b v t) agree_left)
@@ -154,7 +154,7 @@ module _ (r : Receiver) (x : Input) (acc : List ℕ) (soft a b : List ℤ) (g : 
       let n = symbol_refusal r x la in
       let m = symbol_refusal r x lb in
       if_ap (λ (l : Lent). l.acc) (eqb n 0) (lent_after 9296 r x la) la
-      ∙ ap₂ (λ (k : ℕ) (v : List ℕ). if eqb k 0 then v else acc) refusal-same acc-same
+      ∙ ap₂ (λ (k : ℕ) (v : List ℕ). when eqb k 0 then v else acc) refusal-same acc-same
       ∙ sym (if_ap (λ (l : Lent). l.acc) (eqb m 0) (lent_after 9296 r x lb) lb)
 
   lent-soft : (symbol_lent r x la).soft ≡ (symbol_lent r x lb).soft
@@ -163,7 +163,7 @@ module _ (r : Receiver) (x : Input) (acc : List ℕ) (soft a b : List ℤ) (g : 
       let n = symbol_refusal r x la in
       let m = symbol_refusal r x lb in
       if_ap (λ (l : Lent). l.soft) (eqb n 0) (lent_after 9296 r x la) la
-      ∙ ap₂ (λ (k : ℕ) (v : List ℤ). if eqb k 0 then v else soft) refusal-same soft-same
+      ∙ ap₂ (λ (k : ℕ) (v : List ℤ). when eqb k 0 then v else soft) refusal-same soft-same
       ∙ sym (if_ap (λ (l : Lent). l.soft) (eqb m 0) (lent_after 9296 r x lb) lb)
 
   lent-agree : Agree (symbol_answer r x la).receiver.front.phase (symbol_lent r x la).store (symbol_lent r x lb).store

@@ -1,6 +1,6 @@
 -- Symbols one by one, up to the first that tells anything or is refused: the symbol call's, repeated.
 use Rattle.std.specs.Prelude.{ℕ, zero, suc, ◌+◌, Bool, not, ◌||◌, List, eqb, ℤ}
-use Rattle.laws.specs.Choice.{if◌then◌else◌}
+use Rattle.laws.specs.Choice.{when◌then◌else◌}
 use Rattle.sync_step.specs.Events.{no_events}
 use Rattle.receiver.specs.declared.Receiver.{Receiver}
 use Rattle.receiver.specs.declared.Answer.{Answer}
@@ -24,7 +24,7 @@ unfoldable pub stopped : ℕ → Answer → Fed
 stopped i a =
     record {
       refusal = a.refusal;
-      used = if eqb a.refusal 0 then i + 1 else i;
+      used = when eqb a.refusal 0 then i + 1 else i;
       receiver = a.receiver;
       events = a.events;
       runs = a.runs;
@@ -47,4 +47,4 @@ play_from b zero i r l = course (quiet i r) l
 play_from b (suc k) i r l =
     let a = symbol_answer r (input_at b i) l in
     let m = symbol_lent r (input_at b i) l in
-    if stops_at a then course (stopped i a) m else play_from b k (i + 1) a.receiver m
+    when stops_at a then course (stopped i a) m else play_from b k (i + 1) a.receiver m

@@ -4,7 +4,7 @@ use Prim.Native.Nat.{ℕ, ◌+◌}
 use mathlib.Core.Bool.{Bool, true, false, ◌||◌}
 use mathlib.Core.Path.{◌≡◌, refl, sym, ap, subst, ◌∙◌}
 use lib.Dec.{eqb}
-use Rattle.laws.specs.Choice.{if◌then◌else◌}
+use Rattle.laws.specs.Choice.{when◌then◌else◌}
 use Rattle.laws.proofs.Tests.{if_both, if_either, never}
 use Rattle.sync_corr.specs.declared.Both.{Both}
 use Rattle.sync_corr.specs.Correlate.{size_of}
@@ -92,7 +92,7 @@ then_loses es at =
 
 -- .. and stays with a period behind it, where there was room
 end_loses : (a : Headed) (at : ℕ) (p : SyncStats) → loses_in (then_of (then_of (record { first = event_of a; second = Nothing; third = Nothing }) (Lost at)) (Period p)) ≡ true
-unfolding event_of then_of loses_in is_lost is_nothing if◌then◌else◌
+unfolding event_of then_of loses_in is_lost is_nothing when◌then◌else◌
 end_loses NoHead at p = refl
 end_loses (OneHead h) at p = refl
 

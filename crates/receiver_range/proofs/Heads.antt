@@ -6,7 +6,7 @@ use mathlib.Core.Path.{◌≡◌, refl, sym, ap, subst, ◌∙◌}
 use native.Mathlib.Omega.{arith}
 use borrow.Author.Tests.{eq-eqb, eqb-true, eqb-false, lt-ltb}
 use lib.Dec.{eqb, ltb}
-use Rattle.laws.specs.Choice.{if◌then◌else◌, if_yes}
+use Rattle.laws.specs.Choice.{when◌then◌else◌, if_yes}
 use Rattle.laws.proofs.Tests.{if_either, never}
 use Rattle.carrier.specs.declared.Nco.{Nco}
 use Rattle.carrier.specs.Carrier.{heard_of}
@@ -154,7 +154,7 @@ new_held r q k h x d n u y f e a =
     }
 
 begun_pushed : (h : Head) → pushed_in 9296 (begun_of h) ≡ Holds (record { head = h; count = 1 })
-unfolding pushed_in begun_of counted_in if◌then◌else◌
+unfolding pushed_in begun_of counted_in when◌then◌else◌
 begun_pushed h = refl
 
 -- ---- what is heard
@@ -173,7 +173,7 @@ unfolding event_heard event_of or_due
 hear_one n s h = refl
 
 hear_two : (n : Nco) (g h : Head) → heard_by (before n Idle) (OneHead g) (OneHead h) ≡ record { nco = (heard_of (heard_of n g).nco h).nco; phase = begun_of h; due = NoSlot }
-unfolding event_heard event_of or_due due_in begun_of if◌then◌else◌
+unfolding event_heard event_of or_due due_in begun_of when◌then◌else◌
 hear_two n g h = refl
 
 idle_due : (h : Head) → due_in 9296 Idle h ≡ NoSlot

@@ -12,7 +12,7 @@ use lib.Ieee.Bits.{is_true}
 use lib.IntN.{ℤ, pos, nat_abs}
 use lib.ListN.{get_or, length}
 use lib.Signed.{le_z}
-use Rattle.laws.specs.Choice.{if◌then◌else◌, minus}
+use Rattle.laws.specs.Choice.{when◌then◌else◌, minus}
 use Rattle.laws.proofs.Linear.{le_ud, neg_ud, ud_le}
 use Rattle.laws.proofs.Tests.{and_both, if_either}
 use Rattle.carrier.specs.declared.Nco.{Nco}
@@ -179,7 +179,7 @@ eq_within_lem : (e : Equaliser) → (e.filled ≡ 0) ⊎ (e.filled ≡ 11) → C
     (e.opened ≡ true → e.sums.count ≤ 4194288) → eq_within e ≡ true
 unfolding eq_within
 eq_within_lem e f c r g =
-    let t : (if e.opened then sums_within e.sums else true) ≡ true = if_either (λ (b : Bool). b ≡ true) e.opened _ _ (λ o. sums_within_lem e.sums (c.open_sums o) (r o) (g o)) (λ o. refl) in
+    let t : (when e.opened then sums_within e.sums else true) ≡ true = if_either (λ (b : Bool). b ≡ true) e.opened _ _ (λ o. sums_within_lem e.sums (c.open_sums o) (r o) (g o)) (λ o. refl) in
     rw (fill e.filled f, t)
   where
     fill : (n : ℕ) → (n ≡ 0) ⊎ (n ≡ 11) → (eqb n 0 || eqb n 11) ≡ true

@@ -12,7 +12,7 @@ use lib.Dec.{eqb, leb, ltb}
 use lib.IntN.{ℤ, pos, nat_abs, ◌*ℤ◌}
 use mir.Syntax.{w16}
 use mir.Val.{SFits}
-use Rattle.laws.specs.Choice.{if◌then◌else◌}
+use Rattle.laws.specs.Choice.{when◌then◌else◌}
 use Rattle.laws.proofs.Tests.{by_test, and_both, if_either}
 use Rattle.laws.proofs.Size.{abs_add, abs_sub, abs_mul, abs_neg, arg, sfits_abs}
 use Rattle.sync_corr.specs.Correlate.{ones_of}
@@ -98,7 +98,7 @@ moved-place at n c i m q e l = place_is at (n + 5 - c + suc i) (suc n + 5 - c + 
 -- ---- a symbol without a gap before it
 few_pushed : (b : Back) (c : Corrected) (f s : List ℤ) → gap_at b.last c.at ≡ false → b.metas.count < 5 →
     (pushed_back b c f s).back ≡ record { eq = pushed_eq b.eq c.y.i c.y.q; metas = joined b.metas (meta_of c); last = At c.at }
-unfolding pushed_back taken_by if◌then◌else◌
+unfolding pushed_back taken_by when◌then◌else◌
 few_pushed b c f s g l = rw (no_gap b c.at g, lt-ltb b.metas.count 5 l)
 
 five_pushed : (b : Back) (c : Corrected) (f s : List ℤ) → gap_at b.last c.at ≡ false → 5 ≤ b.metas.count →
@@ -107,7 +107,7 @@ five_pushed : (b : Back) (c : Corrected) (f s : List ℤ) → gap_at b.last c.at
       metas = moved b.metas (meta_of c);
       last = At c.at;
     }
-unfolding pushed_back taken_by if◌then◌else◌
+unfolding pushed_back taken_by when◌then◌else◌
 five_pushed b c f s g l = rw (no_gap b c.at g, le-ltb b.metas.count 5 l)
 
 -- ---- an aligned symbol
@@ -196,7 +196,7 @@ opened_step at n b c f s hf hs g =
 
 -- its training, by crate frame
 pub count_step : (b : Back) (c : Corrected) (f s : List ℤ) → b.metas.count ≤ 5 → gap_at b.last c.at ≡ false →
-    (pushed_back b c f s).back.eq.sums.count ≡ b.eq.sums.count + (if trains_back b then 1 else 0)
+    (pushed_back b c f s).back.eq.sums.count ≡ b.eq.sums.count + (when trains_back b then 1 else 0)
 unfolding after_all unbroken trained_in
 count_step b c f s h g = omega (arith, count_theorem b (c ∷ []) f s h (rw g))
 

@@ -12,7 +12,7 @@ use lib.IntN.{ℤ, pos, negsuc}
 use lib.Signed.{◌≤ℤ◌}
 use mir.Syntax.{w16}
 use mir.Val.{SFits}
-use Rattle.laws.specs.Choice.{if◌then◌else◌, if_yes, if_no, minus}
+use Rattle.laws.specs.Choice.{when◌then◌else◌, if_yes, if_no, minus}
 use Rattle.laws.specs.Ranges.{firsts}
 use Rattle.laws.proofs.Linear.{ud_le}
 use Rattle.laws.proofs.Tests.{and_both, by_test, if_both, neither}
@@ -105,7 +105,7 @@ module _ (at : ℕ) (cs : ℕ → Corrected) (f s : List ℤ) (hf : ones_of f �
   stays_open (suc n) h =
       ap (λ (x : Back). x.eq.opened) (gone-step n) ∙ opened_step at n (gone n) (cs n) f s hf hs (follows n h) ∙ stays_open n (omega arith)
 
-  count_next : (n : ℕ) → n < 9296 → (gone (suc n)).eq.sums.count ≡ (gone n).eq.sums.count + (if trains_back (gone n) then 1 else 0)
+  count_next : (n : ℕ) → n < 9296 → (gone (suc n)).eq.sums.count ≡ (gone n).eq.sums.count + (when trains_back (gone n) then 1 else 0)
   count_next n h =
       ap (λ (x : Back). x.eq.sums.count) (gone-step n) ∙
       count_step (gone n) (cs n) f s (omega (arith, (fills n (omega arith)).count)) (follows n h)

@@ -10,7 +10,7 @@ use borrow.Author.Tests.{le-leb, lt-leb, leb-false, le-ltb, ltb-true, ltb-false}
 use lib.Dec.{leb, ltb}
 use lib.IntN.{ℤ}
 use lib.ListN.{length}
-use Rattle.laws.specs.Choice.{if◌then◌else◌, if_yes, if_no}
+use Rattle.laws.specs.Choice.{when◌then◌else◌, if_yes, if_no}
 use Rattle.laws.proofs.Lists.{length-firsts}
 use Rattle.laws.proofs.Size.{arg}
 use Rattle.laws.proofs.Tests.{and_both, by_test, if_either}
@@ -69,7 +69,7 @@ record Stepped (r : Run) (s : SlotPhase) (b : Both) (n : Nco) (x : Step) : Type 
   pub due : DueFits s (r.base + r.t - 23) (listened 9296 (before n s) x.events).due
   pub goes : loses_in x.events ≡ false → Bounded (corr_most Bounds.rotated) b.f → Bounded (corr_most Bounds.rotated) b.s → slot_in_range x.run.course.slot ≡ true →
       let l = listened 9296 (before n s) x.events in
-      let t = if leb 23 r.t then pushed_in 9296 l.phase else l.phase in
+      let t = when leb 23 r.t then pushed_in 9296 l.phase else l.phase in
       PhaseFits x.run t × Follows s l.due t
 
 -- no head is held before 24 symbols have come

@@ -9,7 +9,7 @@ use borrow.Author.Tests.{eqb-true, leb-false}
 use lib.Dec.{eqb, leb}
 use lib.IntN.{ℤ}
 use lib.ListN.{length}
-use Rattle.laws.specs.Choice.{if◌then◌else◌}
+use Rattle.laws.specs.Choice.{when◌then◌else◌}
 use Rattle.laws.proofs.Tests.{and_both, if_both, if_either, never}
 use Rattle.sync_corr.specs.Correlate.{ones_of}
 use Rattle.demap.specs.Answers.{bad_points, bad_scale}
@@ -116,7 +116,7 @@ not_0 : Not6 0
 not_0 e = omega arith
 
 -- a choice by the range alone
-in_range_not_6 : (r : Receiver) (n : ℕ) → receiver_in_range r ≡ true → Not6 n → Not6 (if receiver_in_range r then n else 6)
+in_range_not_6 : (r : Receiver) (n : ℕ) → receiver_in_range r ≡ true → Not6 n → Not6 (when receiver_in_range r then n else 6)
 in_range_not_6 r n e k = if_either Not6 (receiver_in_range r) n 6 (λ t. k) (λ t. absurd (never (sym e ∙ t)))
 
 symbol_not_6 : (r : Receiver) (x : Input) (l : Lent) → receiver_in_range r ≡ true → Not6 (symbol_refusal r x l)
@@ -137,7 +137,7 @@ unfolding restart_refusal
 restart_not_6 r at len e = if_both Not6 _ _ _ (in_range_not_6 r _ e (if_both Not6 _ 7 0 (λ z. omega arith) not_0)) (λ z. omega arith)
 
 -- an answer that the range alone decides
-ranged_not_6 : (r : Receiver) (a b : Answered) → receiver_in_range r ≡ true → Not6 a.refusal → Not6 (if receiver_in_range r then a else b).refusal
+ranged_not_6 : (r : Receiver) (a b : Answered) → receiver_in_range r ≡ true → Not6 a.refusal → Not6 (when receiver_in_range r then a else b).refusal
 ranged_not_6 r a b e k = if_either (λ (x : Answered). Not6 x.refusal) (receiver_in_range r) a b (λ t. k) (λ t. absurd (never (sym e ∙ t)))
 
 pub never_6 : (r : Receiver) (a : Call) → receiver_in_range r ≡ true → refusal_of r a ≡ 6 → ⊥

@@ -1,6 +1,6 @@
 -- The answers to calls, and what they leave.
 use Rattle.std.specs.Prelude.{ℕ, ◌-◌, List, [], ◌∷◌, ltb, get_or}
-use Rattle.laws.specs.Choice.{if◌then◌else◌}
+use Rattle.laws.specs.Choice.{when◌then◌else◌}
 use Rattle.wire.specs.Wire.{numbers_of, packed_of}
 use Rattle.wire.specs.Blocks.{replayed as replayed_by, left}
 use Rattle.fields.specs.Fields.{at, set_of, set_natural_of}
@@ -27,7 +27,7 @@ unfoldable pub stores_of : ℕ → List ℕ → All → Moved
 stores_of n p a = get_or (takers p a) n (unmoved a (plain a.kept 255))
 
 unfoldable pub turn_of : ℕ → List ℕ → All → Moved
-turn_of op p a = if ltb op 64 then unmoved a (free_turn_of op p a.kept) else stores_of (op - 64) p a
+turn_of op p a = when ltb op 64 then unmoved a (free_turn_of op p a.kept) else stores_of (op - 64) p a
 
 -- ---- calls as bytes
 unfoldable pub answer_bytes : All → List ℕ → List ℕ

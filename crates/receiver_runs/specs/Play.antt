@@ -1,7 +1,7 @@
 -- Calls of a receiver one after another, at a slot of any length, and what they tell. A call is taken as accepted: the ranges of a state hold at
 -- 9,296 only.
 use Rattle.std.specs.Prelude.{ℕ, zero, suc, ◌+◌, ◌*◌, ◌/◌, ◌%◌, Bool, true, false, List, [], ◌∷◌, ◌++◌, eqb, ltb, ℤ, pos, ◌-ℤ◌, length, replicate}
-use Rattle.laws.specs.Choice.{if◌then◌else◌, minus}
+use Rattle.laws.specs.Choice.{when◌then◌else◌, minus}
 use Rattle.wire.specs.Wire.{bits}
 use Rattle.digest.specs.Digest.{mixed_of}
 use Rattle.angles.specs.declared.Symbol.{Symbol}
@@ -61,7 +61,7 @@ pub record Kit : Type 0 where
 -- n numbers of 1 and -1 by the bits of v, the lowest first
 unfoldable pub signs : ℕ → ℕ → List ℤ
 signs zero v = []
-signs (suc n) v = (if eqb (v % 2) 1 then pos 1 else minus 1) ∷ signs n (v / 2)
+signs (suc n) v = (when eqb (v % 2) 1 then pos 1 else minus 1) ∷ signs n (v / 2)
 
 -- ---- a receiver with its stores; symbols so far; the digest of all that was told
 pub record System : Type 0 where
@@ -224,7 +224,7 @@ after_symbol k y x =
       receiver = receiver_after n r x l;
       lent = m;
       heard = y.heard + 1;
-      digest = if is_nothing es.first then y.digest else digested y.digest es (slot n r x l) (aligned n r x l) (runs n r x l) m;
+      digest = when is_nothing es.first then y.digest else digested y.digest es (slot n r x l) (aligned n r x l) (runs n r x l) m;
     }
 
 -- .. and tells, if there is an event, in front of what is told later
@@ -234,9 +234,9 @@ told_by k y x z rest =
     let r = y.receiver in
     let l = y.lent in
     let es = (synced n r x l).events in
-    if is_nothing es.first
+    when is_nothing es.first
     then rest
-    else if ltb y.heard k.from
+    else when ltb y.heard k.from
     then rest
     else told y.heard es (runs n r x l) (shown_soft (slot n r x l) z.lent) z.digest ∷ rest
 

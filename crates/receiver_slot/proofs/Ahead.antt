@@ -10,7 +10,7 @@ use lib.IntN.{ℤ, pos}
 use lib.ListN.{length, take, drop, get_or, set, replicate, length-append, take-append-drop, drop_of_length-le}
 use lib.Seq.{drop-append-add, drop_at, length-take-le, paste, paste-suc, set_at, take_all, take-suc}
 use Rattle.laws.proofs.Lists.{firsts-ext, length-firsts}
-use Rattle.laws.specs.Choice.{if◌then◌else◌}
+use Rattle.laws.specs.Choice.{when◌then◌else◌}
 use Rattle.laws.specs.Ranges.{firsts}
 use Rattle.phase.specs.declared.Corrected.{Corrected}
 use Rattle.phase.specs.declared.WholeSlot.{WholeSlot}
@@ -107,7 +107,7 @@ module _ (w : WholeSlot) (table store : List ℤ) where
   unfolding outs_on out_on outputs_by
   outs-are k n m p rows line h g l =
       firsts-ext (outputs_by rows (p ++ ahead_on k n (behind_of line) w table store) 278) (out_on k rows line w table store) (2 * m)
-      (λ j q. ap (λ (x : List ℤ). let z = output_by rows x in if eqb (j % 2) 0 then z.i else z.q) (window k n (j / 2) p (behind_of line) h g (omega (arith, q, l))))
+      (λ j q. ap (λ (x : List ℤ). let z = output_by rows x in when eqb (j % 2) 0 then z.i else z.q) (window k n (j / 2) p (behind_of line) h g (omega (arith, q, l))))
 
 -- ---- the buffer of a group: o is the line behind its room, l has the n symbols too
 pub behind_long : (line : List ℤ) → length (behind_of line) ≡ length line + 2

@@ -8,7 +8,7 @@ use native.Mathlib.Omega.{arith}
 use borrow.Author.Tests.{eq-eqb, eqb-true, eqb-false, le-leb, lt-leb, lt-ltb, le-ltb, ltb-true, ltb-false}
 use lib.Dec.{eqb, leb, ltb}
 use lib.IntN.{ℤ}
-use Rattle.laws.specs.Choice.{if◌then◌else◌}
+use Rattle.laws.specs.Choice.{when◌then◌else◌}
 use Rattle.laws.proofs.Tests.{and_both, by_test, if_either}
 use Rattle.phase.specs.declared.Corrected.{Corrected}
 use Rattle.eq.specs.declared.Equaliser.{Equaliser}
@@ -68,7 +68,7 @@ moved-place n c i m q e l = place_is (n + 5 - c + suc i) (suc n + 5 - c + i) m (
 -- ---- a symbol without a gap before it
 few_pushed : (b : Back) (c : Corrected) (f s : List ℤ) → gap_at b.last c.at ≡ false → b.metas.count < 5 →
     (pushed_back b c f s).back ≡ record { eq = pushed_eq b.eq c.y.i c.y.q; metas = joined b.metas (meta_of c); last = At c.at }
-unfolding pushed_back taken_by if◌then◌else◌
+unfolding pushed_back taken_by when◌then◌else◌
 few_pushed b c f s g l = rw (no_gap b c.at g, lt-ltb b.metas.count 5 l)
 
 pub five_pushed : (b : Back) (c : Corrected) (f s : List ℤ) → gap_at b.last c.at ≡ false → 5 ≤ b.metas.count →
@@ -77,7 +77,7 @@ pub five_pushed : (b : Back) (c : Corrected) (f s : List ℤ) → gap_at b.last 
       metas = moved b.metas (meta_of c);
       last = At c.at;
     }
-unfolding pushed_back taken_by if◌then◌else◌
+unfolding pushed_back taken_by when◌then◌else◌
 five_pushed b c f s g l = rw (no_gap b c.at g, le-ltb b.metas.count 5 l)
 
 -- a training leaves the line as full, and sums open or closed
@@ -148,7 +148,7 @@ opened_step b c f s g =
     ∙ (trained_keeps (pushed_eq b.eq c.y.i c.y.q) b.metas.first f s).opened)
 
 pub count_step : (b : Back) (c : Corrected) (f s : List ℤ) → b.metas.count ≤ 5 → gap_at b.last c.at ≡ false →
-    (pushed_back b c f s).back.eq.sums.count ≡ b.eq.sums.count + (if trains_back b then 1 else 0)
+    (pushed_back b c f s).back.eq.sums.count ≡ b.eq.sums.count + (when trains_back b then 1 else 0)
 unfolding after_all unbroken trained_in
 count_step b c f s h g = omega (arith, count_theorem b (c ∷ []) f s h (rw g))
 

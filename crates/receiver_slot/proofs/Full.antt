@@ -9,7 +9,7 @@ use native.Mathlib.Omega.{arith}
 use borrow.Author.Tests.{leb-true, leb-false, lt-ltb, le-ltb, ltb-true, ltb-false}
 use lib.Dec.{eqb, leb, ltb}
 use lib.IntN.{ℤ}
-use Rattle.laws.specs.Choice.{if◌then◌else◌, if_yes, if_no}
+use Rattle.laws.specs.Choice.{when◌then◌else◌, if_yes, if_no}
 use Rattle.laws.specs.Ranges.{firsts}
 use Rattle.laws.proofs.Tests.{by_test}
 use Rattle.phase.specs.declared.Corrected.{Corrected}
@@ -72,7 +72,7 @@ module _ (b : Back) (w : WholeSlot) (table store f s : List ℤ) (c l lo : ℕ) 
   stays_open zero h = ap (λ (x : Back). x.eq.opened) (back_none b w table store f s)
   stays_open (suc n) h = ap (λ (x : Back). x.eq.opened) (gone-step n) ∙ opened_step (gone n) (cs n) f s (follows n h) ∙ stays_open n (omega arith)
 
-  count_next : (n : ℕ) → n < 9296 → (gone (suc n)).eq.sums.count ≡ (gone n).eq.sums.count + (if trains_back (gone n) then 1 else 0)
+  count_next : (n : ℕ) → n < 9296 → (gone (suc n)).eq.sums.count ≡ (gone n).eq.sums.count + (when trains_back (gone n) then 1 else 0)
   count_next n h =
       ap (λ (x : Back). x.eq.sums.count) (gone-step n) ∙ count_step (gone n) (cs n) f s (omega (arith, (fills n (omega arith)).count)) (follows n h)
 
@@ -198,11 +198,11 @@ begins at b (five e i j k l m) h g =
     at-start at = omega arith
 
 on_empty : trainings_on 0 ≡ 19
-unfolding trainings_on if◌then◌else◌
+unfolding trainings_on when◌then◌else◌
 on_empty = refl
 
 on_full : trainings_on 11 ≡ 24
-unfolding trainings_on if◌then◌else◌
+unfolding trainings_on when◌then◌else◌
 on_full = refl
 
 from_line : (b : Back) → (b.eq.filled ≡ 0) ⊎ (b.eq.filled ≡ 11) → From b.eq.filled (29 - trainings_on b.eq.filled)
@@ -210,7 +210,7 @@ from_line b (inl e) = inl (e, omega (arith, ap trainings_on e, on_empty))
 from_line b (inr e) = inr (e, omega (arith, ap trainings_on e, on_full))
 
 few_trainings : (n : ℕ) → trainings_on n ≤ 24
-unfolding trainings_on if◌then◌else◌
+unfolding trainings_on when◌then◌else◌
 few_trainings n = by_test (eqb n 11) (λ t. rw t (omega arith)) (λ t. rw t (omega arith))
 
 pub line_few : (b : Back) → (b.eq.filled ≡ 0) ⊎ (b.eq.filled ≡ 11) → b.eq.filled ≤ 11

@@ -8,7 +8,7 @@ use borrow.Author.Tests.{leb-true, leb-false, le-ltb, lt-ltb}
 use lib.Dec.{leb, lit≤}
 use lib.IntN.{ℤ}
 use lib.ListN.{length, length-append}
-use Rattle.laws.specs.Choice.{if◌then◌else◌}
+use Rattle.laws.specs.Choice.{when◌then◌else◌}
 use Rattle.laws.specs.Ranges.{firsts}
 use Rattle.laws.proofs.Tests.{by_test, if_either}
 use Rattle.phase.specs.declared.Corrected.{Corrected}
@@ -87,7 +87,7 @@ settled_back at n b c f s h e p =
 
 settled_out : (at n : ℕ) (b : Back) (c : Corrected) (f s : List ℤ) → 29 ≤ n → c.at ≡ at + n → Settled at n b →
     (pushed_back b c f s).out ≡ Given (record { meta = b.metas.first; z = output_of b.eq.taps (line_after b.eq.line c.y.i c.y.q) })
-unfolding pushed_back taken_by equalised_by output_at pushed_eq if◌then◌else◌
+unfolding pushed_back taken_by equalised_by output_at pushed_eq when◌then◌else◌
 settled_out at n b c f s h e p =
     let g : gap_at b.last c.at ≡ false = rw e p.follows in
     rw (no_gap b c.at g, le-ltb b.metas.count 5 (omega (arith, p.five)), lt-ltb 5 (min (b.eq.filled + 1) 11) (omega (arith, p.full)))

@@ -1,6 +1,6 @@
 -- What the private functions promise: the alignment after n symbols of a slot, and places of the buffer.
 use Rattle.std.specs.Prelude.{ℕ, zero, suc, ◌+◌, ◌-◌, ◌*◌, ◌/◌, ◌%◌, ◌≤◌, ◌^◌, ◌≡◌, List, [], ◌∷◌, ◌++◌, eqb, ℤ, pos, length, take, drop}
-use Rattle.laws.specs.Choice.{if◌then◌else◌}
+use Rattle.laws.specs.Choice.{when◌then◌else◌}
 use Rattle.laws.specs.Ranges.{firsts}
 use Rattle.phase.specs.declared.WholeSlot.{WholeSlot}
 use Rattle.phase.specs.Phase.{corrected_of}
@@ -39,7 +39,7 @@ put_at o values buffer = take o buffer ++ (values ++ drop (o + length values) bu
 
 -- the runs by those that wait and the slot's position
 unfoldable pub tail_of : Points → Metas → AlignedRun
-tail_of p w = if eqb w.count 0 then no_run else record { at = w.first.at; j = w.first.j; count = w.count; bits = p.bits }
+tail_of p w = when eqb w.count 0 then no_run else record { at = w.first.at; j = w.first.j; count = w.count; bits = p.bits }
 
 unfoldable pub runs_from : Points → Back → ℕ → Runs
 runs_from p b at = record { tail = tail_of p (joined_to b at).metas; body = record { at = at; j = 0; count = 9291; bits = p.bits } }
@@ -73,14 +73,14 @@ ahead_on k (suc n) behind w table store =
 unfoldable pub out_on : ℕ → List ℤ → List ℤ → WholeSlot → List ℤ → List ℤ → ℕ → ℤ
 out_on k rows line w table store j =
     let z = output_by rows (ahead_on k (j / 2 + 1) (behind_of line) w table store) in
-    if eqb (j % 2) 0 then z.i else z.q
+    when eqb (j % 2) 0 then z.i else z.q
 
 unfoldable pub outs_on : ℕ → ℕ → List ℤ → List ℤ → WholeSlot → List ℤ → List ℤ → List ℤ
 outs_on k m rows line w table store = firsts (out_on k rows line w table store) (2 * m)
 
 -- the groups but for the last, 135 symbols from 9,132 on: the 32 symbols that let out pilots, then 136 main symbols and 4 of TMCC at a time
 unfoldable pub stretch_of : ℕ → Stretch
-stretch_of g = if eqb g 0 then record { from = 0; symbols = 32; mains = 0 } else record { from = 140 * g - 108; symbols = 140; mains = 136 }
+stretch_of g = when eqb g 0 then record { from = 0; symbols = 32; mains = 0 } else record { from = 140 * g - 108; symbols = 140; mains = 136 }
 
 -- what a group of n symbols needs, the first m of which let out main symbols
 pub record GroupOk (line z rows : List ℤ) (w : WholeSlot) (p : Points) (k n m o : ℕ) (table store soft : List ℤ) : Type 0 where

@@ -1,6 +1,6 @@
 -- A part replaced by the numbers of a call.
 use Rattle.std.specs.Prelude.{ℕ, ◌+◌, ◌*◌, List, eqb, ℤ}
-use Rattle.laws.specs.Choice.{if◌then◌else◌}
+use Rattle.laws.specs.Choice.{when◌then◌else◌}
 use Rattle.laws.specs.Ranges.{firsts}
 use Rattle.wire.specs.Wire.{packed_of}
 use Rattle.fields.specs.Fields.{at, at8, at32, pair_at}
@@ -42,18 +42,18 @@ points_put r p = with_points r (record { bits = at8 p 1; points = points_of (pac
 -- ---- by the call's number; all others replace nothing
 unfoldable pub part_put : ℕ → List ℕ → Receiver → Receiver
 part_put n p r =
-    if eqb n 1
+    when eqb n 1
     then carrier_put r p
-    else if eqb n 3
+    else when eqb n 3
     then phase_put r p
-    else if eqb n 5
+    else when eqb n 5
     then run_put_in r p
-    else if eqb n 7
+    else when eqb n 7
     then heads_put_in r p
-    else if eqb n 9
+    else when eqb n 9
     then window_put r p
-    else if eqb n 11
+    else when eqb n 11
     then waiting_put r p
-    else if eqb n 13
+    else when eqb n 13
     then points_put r p
     else r

@@ -1,6 +1,6 @@
 -- A receiver with a part replaced.
 use Rattle.std.specs.Prelude.{ℕ, eqb, leb}
-use Rattle.laws.specs.Choice.{if◌then◌else◌}
+use Rattle.laws.specs.Choice.{when◌then◌else◌}
 use Rattle.carrier.specs.declared.Nco.{Nco}
 use Rattle.sync.specs.declared.SlotSync.{SlotSync}
 use Rattle.phase.specs.declared.SlotPhase.{SlotPhase}
@@ -34,9 +34,9 @@ unfoldable pub meta_put : Metas → ℕ → Meta → Metas
 meta_put w k m =
     record {
       count = w.count;
-      first = if eqb k 0 then m else w.first;
-      second = if eqb k 1 then m else w.second;
-      third = if eqb k 2 then m else w.third;
-      fourth = if eqb k 3 then m else w.fourth;
-      fifth = if leb 4 k then m else w.fifth;
+      first = when eqb k 0 then m else w.first;
+      second = when eqb k 1 then m else w.second;
+      third = when eqb k 2 then m else w.third;
+      fourth = when eqb k 3 then m else w.fourth;
+      fifth = when leb 4 k then m else w.fifth;
     }

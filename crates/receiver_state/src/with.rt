@@ -1,7 +1,7 @@
 // A receiver with a part replaced.
 ghost use Rattle.std.specs.Prelude.{◌≡◌};
 ghost use Rattle.receiver_state.specs.With.{with_front, with_nco, with_sync, with_phase, with_line, with_points, meta_put};
-ghost use Rattle.laws.specs.Choice.{if◌then◌else◌};
+ghost use Rattle.laws.specs.Choice.{when◌then◌else◌};
 
 use carrier::Nco;
 use frame::Back;
@@ -103,7 +103,7 @@ pub(crate) fn points(r: Receiver, p: Points) -> Receiver
 }
 
 fn place(b: bool, m: Meta, w: Meta) -> Meta
-    ensures { result ≡ (if b then m else w) }
+    ensures { result ≡ (when b then m else w) }
 {
     if b { m } else { w }
 }

@@ -8,7 +8,7 @@ use borrow.Author.Tests.{eq-eqb, eqb-true, le-leb, leb-false, leb-true, lt-leb, 
 use lib.Dec.{eqb, leb, ltb}
 use lib.IntN.{ℤ}
 use lib.ListN.{length}
-use Rattle.laws.specs.Choice.{if◌then◌else◌, if_yes, if_no}
+use Rattle.laws.specs.Choice.{when◌then◌else◌, if_yes, if_no}
 use Rattle.laws.proofs.Tests.{and_both, by_test}
 use Rattle.sync_corr.specs.Correlate.{ones_of}
 use Rattle.sync_step.proofs.Laws.{run_ready}
@@ -64,10 +64,10 @@ unfolding soon_refusal state_refusal
 soon_known r acc store soft f s table h =
     let past = leb (2 ^ 62) (next_of r) in
     let fit = eqb acc 9296 && eqb store 18592 && leb 44880 soft in
-    let n7 : ℕ = if past then 7 else 0 in
-    let n6 : ℕ = if receiver_in_range r then n7 else 6 in
-    let n3 : ℕ = if eqb table 1024 then n6 else 3 in
-    let n2 : ℕ = if ones_of f && ones_of s then n3 else 2 in
+    let n7 : ℕ = when past then 7 else 0 in
+    let n6 : ℕ = when receiver_in_range r then n7 else 6 in
+    let n3 : ℕ = when eqb table 1024 then n6 else 3 in
+    let n2 : ℕ = when ones_of f && ones_of s then n3 else 2 in
     by_test fit
     (λ a. let h1 : n2 ≡ 0 = sym (if_yes fit n2 1 a) ∙ h in
     by_test (ones_of f && ones_of s)
@@ -98,13 +98,13 @@ soon_known r acc store soft f s table h =
     (λ a. no 0 (sym (if_no fit n2 1 a) ∙ h))
 
 pub known_soon : (r : Receiver) (acc store soft : ℕ) (f s : List ℤ) (table : ℕ) → Soon r acc store soft f s table → soon_refusal r acc store soft f s table ≡ 0
-unfolding soon_refusal state_refusal if◌then◌else◌
+unfolding soon_refusal state_refusal when◌then◌else◌
 known_soon r acc store soft f s table k =
     rw (eq-eqb acc 9296 k.long, eq-eqb store 18592 k.held, le-leb 44880 soft k.buffer, k.first, k.second, eq-eqb table 1024 k.cosines, k.within, lt-leb (2 ^ 62) (next_of r) k.next)
 
 -- ---- a slot that is due
 pub due_is : (r : Receiver) (w : WholeSlot) (f s table store : List ℤ) → BackOk r.back →
-    (if ltb (2 ^ 62) (w.head.at + 9296) then 7 else if full_at r.back w.head.at then 8 else 0) ≡ due_refusal r (Slot w) f s table store
+    (when ltb (2 ^ 62) (w.head.at + 9296) then 7 else when full_at r.back w.head.at then 8 else 0) ≡ due_refusal r (Slot w) f s table store
 unfolding due_refusal slot_past due_symbols
 due_is r w f s table store h = rw (full_is w table store f s r.back h)
 
@@ -114,7 +114,7 @@ unfolding due_refusal slot_past due_symbols
 slot_ok r acc w f s table store soft k o h =
     let past = ltb (2 ^ 62) (w.head.at + 9296) in
     let full = overfull r.back (corrected_all 9296 w table store) f s in
-    let n8 : ℕ = if full then 8 else 0 in
+    let n8 : ℕ = when full then 8 else 0 in
     by_test past
     (λ a. no 6 (sym (if_yes past 7 n8 a) ∙ h))
     (λ a. by_test full

@@ -7,7 +7,7 @@ use borrow.Author.Tests.{eq-eqb, ne_eqb}
 use lib.Dec.{eqb, leb}
 use lib.IntN.{ℤ}
 use lib.ListN.{get_or, length}
-use Rattle.laws.specs.Choice.{if◌then◌else◌, if_yes, if_no}
+use Rattle.laws.specs.Choice.{when◌then◌else◌, if_yes, if_no}
 use Rattle.laws.proofs.Tests.{if_ap}
 use Rattle.sync_corr.specs.Correlate.{ones_of}
 use Rattle.sync_step.specs.Step.{place_of}
@@ -27,9 +27,9 @@ use Rattle.receiver.specs.Symbol.{Input, Lent, acc_after, aligned, back23, enoug
 
 -- the refusals in order, cut where the slot comes in
 cut : (a b c d e g h : Bool) →
-    (if a then if b then if c then if d then if e || g then 7 else if h then 8 else 0 else 6 else 3 else 2 else 1)
-    ≡ (let n : ℕ = if a then if b then if c then if d then if e then 7 else 0 else 6 else 3 else 2 else 1 in if eqb n 0 then if g then 7 else if h then 8 else 0 else n)
-unfolding if◌then◌else◌
+    (when a then when b then when c then when d then when e || g then 7 else when h then 8 else 0 else 6 else 3 else 2 else 1)
+    ≡ (let n : ℕ = when a then when b then when c then when d then when e then 7 else 0 else 6 else 3 else 2 else 1 in when eqb n 0 then when g then 7 else when h then 8 else 0 else n)
+unfolding when◌then◌else◌
 cut false b c d e g h = refl
 cut true false c d e g h = refl
 cut true true false d e g h = refl
@@ -48,7 +48,7 @@ module _ (r : Receiver) (x : Input) (l : Lent) where
   abbrev later : ℕ
   later = later_refusal r seen x.f x.s x.table l.store
 
-  refusal_is : symbol_refusal r x l ≡ (if eqb soon 0 then later else soon)
+  refusal_is : symbol_refusal r x l ≡ (when eqb soon 0 then later else soon)
   unfolding symbol_refusal stores_fit past full slot heads synced window rotated symbol_of soon_refusal state_refusal later_refusal due_refusal ahead_by window_by
   refusal_is =
       cut (eqb (length l.acc) 9296 && eqb (length l.store) 18592 && leb 44880 (length l.soft)) (ones_of x.f && ones_of x.s) (eqb (length x.table) 1024)
@@ -93,7 +93,7 @@ module _ (r : Receiver) (a : Ahead) (f s table store : List ℤ) (d : a.heard.du
   no-symbols = rw d
 
   no_refusal : later_refusal r a f s table store ≡ 0
-  unfolding later_refusal due_refusal slot_past due_symbols overfull if◌then◌else◌
+  unfolding later_refusal due_refusal slot_past due_symbols overfull when◌then◌else◌
   no_refusal = rw d
 
   none-aligned : aligned_now r a f s table store ≡ []
@@ -101,19 +101,19 @@ module _ (r : Receiver) (a : Ahead) (f s table store : List ℤ) (d : a.heard.du
   none-aligned = rw no-symbols
 
   pub answer_none : taken_by r a r.back no_runs ≡ answer_by r a f s table store
-  unfolding answer_by after_all runs_of waiting_before no_runs run_of if◌then◌else◌
+  unfolding answer_by after_all runs_of waiting_before no_runs run_of when◌then◌else◌
   answer_none = rw (no_refusal, none-aligned, no-symbols)
 
   pub acc-none : (p : ℕ) (acc : List ℕ) → stored_of a.step.stores p acc ≡ acc_by r a f s table store p acc
-  unfolding acc_by if◌then◌else◌
+  unfolding acc_by when◌then◌else◌
   acc-none p acc = rw no_refusal
 
   pub store-none : store_by r a store ≡ slot_store r a f s table store
-  unfolding slot_store if◌then◌else◌
+  unfolding slot_store when◌then◌else◌
   store-none = rw no_refusal
 
   pub soft-none : (soft : List ℤ) → soft ≡ soft_by r a f s table store soft
-  unfolding soft_by soft_all written_on if◌then◌else◌
+  unfolding soft_by soft_all written_on when◌then◌else◌
   soft-none soft = rw (no_refusal, none-aligned)
 
 -- ---- .. and with one
@@ -130,19 +130,19 @@ module _ (r : Receiver) (a : Ahead) (f s table store : List ℤ) (w : WholeSlot)
     pub answer-slot : (b : Back) (g : Runs) → b ≡ after_all r.back (corrected_all 9296 w table store) f s →
         g ≡ runs_of r.points (waiting_before r.back (corrected_all 9296 w table store)) (aligned_all r.back (corrected_all 9296 w table store) f s) →
         taken_by r a b g ≡ answer_by r a f s table store
-    unfolding answer_by symbols_by due_symbols if◌then◌else◌
+    unfolding answer_by symbols_by due_symbols when◌then◌else◌
     answer-slot b g eb eg = rw (eb, eg, aligned-due, e, d)
 
     pub acc-slot : (p : ℕ) (acc : List ℕ) → stored_of a.step.stores p acc ≡ acc_by r a f s table store p acc
-    unfolding acc_by if◌then◌else◌
+    unfolding acc_by when◌then◌else◌
     acc-slot p acc = rw e
 
     pub store-slot : store_by r a store ≡ slot_store r a f s table store
-    unfolding slot_store if◌then◌else◌
+    unfolding slot_store when◌then◌else◌
     store-slot = rw e
 
     pub soft-slot : (soft : List ℤ) → written_on (soft_all r.points (aligned_all r.back (corrected_all 9296 w table store) f s)) soft ≡ soft_by r a f s table store soft
-    unfolding soft_by if◌then◌else◌
+    unfolding soft_by when◌then◌else◌
     soft-slot soft = rw (e, aligned-due)
 
 -- ---- .. that is refused

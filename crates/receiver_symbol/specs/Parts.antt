@@ -1,6 +1,6 @@
 -- What the functions between the entries and the definitions give, and what they need.
 use Rattle.std.specs.Prelude.{ℕ, ◌+◌, ◌^◌, ◌≤◌, ◌<◌, true, ◌&&◌, List, ◌≡◌, eqb, leb, ℤ, length}
-use Rattle.laws.specs.Choice.{if◌then◌else◌}
+use Rattle.laws.specs.Choice.{when◌then◌else◌}
 use Rattle.sync_corr.specs.Correlate.{both_of, ones_of}
 use Rattle.sync_heads.specs.declared.Head.{Head as Told}
 use Rattle.sync_heads.specs.declared.Word.{Word}
@@ -39,13 +39,13 @@ use Rattle.receiver.specs.Answers.{no_runs}
 
 -- ---- why a symbol is refused, as far as that is known without its slot
 unfoldable pub state_refusal : Receiver → ℕ
-state_refusal r = if receiver_in_range r then if leb (2 ^ 62) (next_of r) then 7 else 0 else 6
+state_refusal r = when receiver_in_range r then when leb (2 ^ 62) (next_of r) then 7 else 0 else 6
 
 unfoldable pub soon_refusal : Receiver → ℕ → ℕ → ℕ → List ℤ → List ℤ → ℕ → ℕ
 soon_refusal r acc store soft f s table =
-    if eqb acc 9296 && eqb store 18592 && leb 44880 soft
-    then if ones_of f && ones_of s
-    then if eqb table 1024
+    when eqb acc 9296 && eqb store 18592 && leb 44880 soft
+    then when ones_of f && ones_of s
+    then when eqb table 1024
     then state_refusal r
     else 3
     else 2
@@ -142,27 +142,27 @@ left_by r a b p =
     }
 
 unfoldable pub phase_by : ℕ → SlotPhase → SlotPhase
-phase_by t p = if leb 23 t then pushed_in 9296 p else p
+phase_by t p = when leb 23 t then pushed_in 9296 p else p
 
 unfoldable pub stored_by : ℕ → SlotPhase → ℤ → ℤ → List ℤ → List ℤ
-stored_by t p i q store = if leb 23 t then stored_in 9296 p i q store else store
+stored_by t p i q store = when leb 23 t then stored_in 9296 p i q store else store
 
 unfoldable pub after_by : Receiver → Ahead → Back → Receiver
 after_by r a b =
     let left = left_by r a b (phase_by r.front.sync.run.t a.heard.phase) in
-    if loses_in a.step.events then started (next_of r + 1) (kept_of left) else left
+    when loses_in a.step.events then started (next_of r + 1) (kept_of left) else left
 
 unfoldable pub store_by : Receiver → Ahead → List ℤ → List ℤ
 store_by r a store =
     let z = symbol_at a.win 0 in
-    if loses_in a.step.events then store else stored_by r.front.sync.run.t a.heard.phase z.i z.q store
+    when loses_in a.step.events then store else stored_by r.front.sync.run.t a.heard.phase z.i z.q store
 
 unfoldable pub taken_by : Receiver → Ahead → Back → Runs → Answer
 taken_by r a b runs = record { refusal = 0; receiver = after_by r a b; events = a.step.events; runs = runs }
 
 -- ---- the rest of its refusals, and all that it answers and leaves
 unfoldable pub due_refusal : Receiver → Due → List ℤ → List ℤ → List ℤ → List ℤ → ℕ
-due_refusal r d f s table store = if slot_past 9296 d then 7 else if overfull r.back (due_symbols 9296 d table store) f s then 8 else 0
+due_refusal r d f s table store = when slot_past 9296 d then 7 else when overfull r.back (due_symbols 9296 d table store) f s then 8 else 0
 
 module _ (r : Receiver) (a : Ahead) (f s table store : List ℤ) where
   unfoldable pub later_refusal : ℕ
@@ -176,15 +176,15 @@ module _ (r : Receiver) (a : Ahead) (f s table store : List ℤ) where
 
   unfoldable pub answer_by : Answer
   answer_by =
-      if eqb later_refusal 0
+      when eqb later_refusal 0
       then taken_by r a (after_all r.back symbols_by f s) (runs_of r.points (waiting_before r.back symbols_by) aligned_now)
       else refused_by later_refusal r
 
   unfoldable pub acc_by : ℕ → List ℕ → List ℕ
-  acc_by p acc = if eqb later_refusal 0 then stored_of a.step.stores p acc else acc
+  acc_by p acc = when eqb later_refusal 0 then stored_of a.step.stores p acc else acc
 
   unfoldable pub slot_store : List ℤ
-  slot_store = if eqb later_refusal 0 then store_by r a store else store
+  slot_store = when eqb later_refusal 0 then store_by r a store else store
 
   unfoldable pub soft_by : List ℤ → List ℤ
-  soft_by soft = if eqb later_refusal 0 then written_on (soft_all r.points aligned_now) soft else soft
+  soft_by soft = when eqb later_refusal 0 then written_on (soft_all r.points aligned_now) soft else soft

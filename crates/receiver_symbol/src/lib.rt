@@ -34,7 +34,7 @@ pub fn symbol(
     store: &mut [i16],
     soft: &mut [i8],
 ) -> Answer
-    ensures { (result ≡ symbol_answer r (record { xi = xi; xq = xq; f = f; s = s; table = table.now }) (record { acc = acc.entry.now; store = store.old; soft = soft.old })) × (acc.exit.now ≡ (symbol_lent r (record { xi = xi; xq = xq; f = f; s = s; table = table.now }) (record { acc = acc.entry.now; store = store.old; soft = soft.old })).acc) × (store.new ≡ (symbol_lent r (record { xi = xi; xq = xq; f = f; s = s; table = table.now }) (record { acc = acc.entry.now; store = store.old; soft = soft.old })).store) × (soft.new ≡ (symbol_lent r (record { xi = xi; xq = xq; f = f; s = s; table = table.now }) (record { acc = acc.entry.now; store = store.old; soft = soft.old })).soft) }
+    ensures { (result ≡ symbol_answer r (record { xi = xi; xq = xq; f = f; s = s; table = table.now }) (record { acc = acc.old; store = store.old; soft = soft.old })) × (acc.new ≡ (symbol_lent r (record { xi = xi; xq = xq; f = f; s = s; table = table.now }) (record { acc = acc.old; store = store.old; soft = soft.old })).acc) × (store.new ≡ (symbol_lent r (record { xi = xi; xq = xq; f = f; s = s; table = table.now }) (record { acc = acc.old; store = store.old; soft = soft.old })).store) × (soft.new ≡ (symbol_lent r (record { xi = xi; xq = xq; f = f; s = s; table = table.now }) (record { acc = acc.old; store = store.old; soft = soft.old })).soft) }
 {
     let n = refusals::soon(r, acc.len(), store.len(), soft.len(), &f, &s, table.len());
     if n == 0 {

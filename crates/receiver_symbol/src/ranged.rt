@@ -18,7 +18,7 @@ pub fn known(
     soft: &mut [i8],
 ) -> Answer
     requires { Soon r (length acc.old) (length store.old) (length soft.old) f.now s.now (length table.now) }
-    ensures { (result ≡ symbol_answer r (record { xi = xi; xq = xq; f = f.now; s = s.now; table = table.now }) (record { acc = acc.entry.now; store = store.old; soft = soft.old })) × (acc.exit.now ≡ (symbol_lent r (record { xi = xi; xq = xq; f = f.now; s = s.now; table = table.now }) (record { acc = acc.entry.now; store = store.old; soft = soft.old })).acc) × (store.new ≡ (symbol_lent r (record { xi = xi; xq = xq; f = f.now; s = s.now; table = table.now }) (record { acc = acc.entry.now; store = store.old; soft = soft.old })).store) × (soft.new ≡ (symbol_lent r (record { xi = xi; xq = xq; f = f.now; s = s.now; table = table.now }) (record { acc = acc.entry.now; store = store.old; soft = soft.old })).soft) }
+    ensures { (result ≡ symbol_answer r (record { xi = xi; xq = xq; f = f.now; s = s.now; table = table.now }) (record { acc = acc.old; store = store.old; soft = soft.old })) × (acc.new ≡ (symbol_lent r (record { xi = xi; xq = xq; f = f.now; s = s.now; table = table.now }) (record { acc = acc.old; store = store.old; soft = soft.old })).acc) × (store.new ≡ (symbol_lent r (record { xi = xi; xq = xq; f = f.now; s = s.now; table = table.now }) (record { acc = acc.old; store = store.old; soft = soft.old })).store) × (soft.new ≡ (symbol_lent r (record { xi = xi; xq = xq; f = f.now; s = s.now; table = table.now }) (record { acc = acc.old; store = store.old; soft = soft.old })).soft) }
 {
     let y = r.front.sync.run;
     let p = sync_step::plain::place(y.t);

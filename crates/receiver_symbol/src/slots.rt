@@ -1,6 +1,6 @@
 // The slot that a symbol completes, and the symbol after it.
 ghost use Rattle.std.specs.Prelude.{◌≡◌, ◌+◌, ◌<◌, ◌^◌, ltb, length};
-ghost use Rattle.laws.specs.Choice.{if◌then◌else◌};
+ghost use Rattle.laws.specs.Choice.{when◌then◌else◌};
 ghost use Rattle.phase.specs.declared.Due.TheVariants.{Slot};
 ghost use Rattle.phase.specs.Ranges.{WholeOk};
 ghost use Rattle.receiver_slot.specs.Full.{full_at};
@@ -15,7 +15,7 @@ use receiver::{Answer, Receiver};
 // 7, the slot's last symbol would stand past 2^62; 8, a training finds the sums full.
 fn refusal(b: Back, at: u64) -> u8
     requires { BackOk b }
-    ensures { result ≡ (if ltb (2 ^ 62) (at + 9296) then 7 else if full_at b at then 8 else 0) }
+    ensures { result ≡ (when ltb (2 ^ 62) (at + 9296) then 7 else when full_at b at then 8 else 0) }
 {
     if 4611686018427378608 < at {
         7

@@ -1,6 +1,6 @@
 -- Words, slots and correlations as numbers.
 use Rattle.std.specs.Prelude.{ℕ, ◌+◌, List, eqb}
-use Rattle.laws.specs.Choice.{if◌then◌else◌}
+use Rattle.laws.specs.Choice.{when◌then◌else◌}
 use Rattle.sync_corr.specs.declared.Corr.{Corr}
 use Rattle.sync_heads.specs.declared.Word.{Word}
 use Rattle.sync_heads.specs.declared.Word.TheVariants.{Ssync, Fsync, NotFsync}
@@ -10,7 +10,7 @@ use Rattle.fields.specs.Fields.{at, at8, at32, signed32}
 use Rattle.slot_wire.specs.declared.SlotShown.{SlotShown}
 
 unfoldable pub word_of : ℕ → Word
-word_of n = if eqb n 0 then Ssync else if eqb n 1 then Fsync else NotFsync
+word_of n = when eqb n 0 then Ssync else when eqb n 1 then Fsync else NotFsync
 
 unfoldable pub word_number : Word → ℕ
 word_number Ssync = 0
@@ -19,7 +19,7 @@ word_number NotFsync = 2
 
 -- three numbers from k on: whether the slot is known, its number, its frame
 unfoldable pub slot_of : List ℕ → ℕ → Slot
-slot_of p k = if eqb (at p k) 0 then Unknown else In (at8 p (k + 1)) (at32 p (k + 2))
+slot_of p k = when eqb (at p k) 0 then Unknown else In (at8 p (k + 1)) (at32 p (k + 2))
 
 unfoldable pub slot_shown : Slot → SlotShown
 slot_shown Unknown = record { known = 0; number = 0; frame = 0 }

@@ -9,7 +9,7 @@ use lib.Ieee.{Float, nan, inf, fin, binary64, up, down, round, mul, lt, neg, fit
 use lib.Ieee.Exact.{HasValue, round_exact}
 use lib.Ieee.Fits.{down_pos, and_l, and_r}
 use lib.Ieee.Nearest.{div_same}
-use Rattle.laws.specs.Choice.{if◌then◌else◌}
+use Rattle.laws.specs.Choice.{when◌then◌else◌}
 use Rattle.solve.specs.Taps.{nearest_of, size_of, rounded_of}
 
 -- ---- twice m * 2 ^ e is a whole number of the smallest values
@@ -174,7 +174,7 @@ less : (h : ℕ) → min (min h 32768) 32767 ≡ min h 32767
 less h = omega arith
 
 pub rounded_pos : (y : Float) → lt (fin false 0 (pos 0)) y ≡ true → rounded_of y ≡ pos (min (size_of y) 32767)
-unfolding lt rounded_of if◌then◌else◌ size_of
+unfolding lt rounded_of when◌then◌else◌ size_of
 rounded_pos nan p = none p
 rounded_pos (inf true) p = none p
 rounded_pos (inf false) p = refl
@@ -182,7 +182,7 @@ rounded_pos (fin true m e) p = none p
 rounded_pos (fin false m e) p = ap pos (sym (less (nearest_of (m * up e) (down e))))
 
 pub rounded_neg : (y : Float) → lt y (fin false 0 (pos 0)) ≡ true → rounded_of y ≡ neg_ℤ (pos (size_of (neg y)))
-unfolding lt rounded_of if◌then◌else◌ size_of neg
+unfolding lt rounded_of when◌then◌else◌ size_of neg
 rounded_neg nan p = none p
 rounded_neg (inf true) p = refl
 rounded_neg (inf false) p = none p
@@ -212,7 +212,7 @@ zero_up : (a d : ℕ) → a ≡ 0 → 0 < d → nearest_of a d ≡ 0
 zero_up a d e h = halves a d h ∙ ap (λ (x : ℕ). (2 * x / d + 1) / 2) e ∙ ap (λ (x : ℕ). (x + 1) / 2) (zero-div d)
 
 pub rounded_zero : (y : Float) → lt (fin false 0 (pos 0)) y ≡ false → lt y (fin false 0 (pos 0)) ≡ false → rounded_of y ≡ pos 0
-unfolding lt rounded_of if◌then◌else◌
+unfolding lt rounded_of when◌then◌else◌
 rounded_zero nan p q = refl
 rounded_zero (inf true) p q = none (sym q)
 rounded_zero (inf false) p q = none (sym p)

@@ -5,7 +5,7 @@ use lib.Ieee.Back.{round_whole}
 use lib.Ieee.Exact.{HasValue}
 use lib.ListN.{get_or-append}
 use lib.Seq.{get_or_at}
-use Rattle.laws.specs.Choice.{if◌then◌else◌, minus}
+use Rattle.laws.specs.Choice.{when◌then◌else◌, minus}
 use Rattle.solve_step.specs.Complex.{entry_at, place}
 use Rattle.solve_step.specs.declared.complex.Complex.{Complex}
 use Rattle.solve.proofs.Laws.{taken, length_parts}
@@ -75,24 +75,24 @@ nearest_theorem a d h =
 
 -- with its sign, as long as the tap holds it ..
 pub above_theorem : (m : ℕ) (e : ℤ) → nearest_of (m * up e) (down e) ≤ 32767 → rounded_of (fin false m e) ≡ pos (nearest_of (m * up e) (down e))
-unfolding rounded_of if◌then◌else◌
+unfolding rounded_of when◌then◌else◌
 above_theorem m e h = ap pos (omega arith)
 
 pub below_theorem : (m : ℕ) (e : ℤ) → nearest_of (m * up e) (down e) ≤ 32768 → rounded_of (fin true m e) ≡ minus (nearest_of (m * up e) (down e))
-unfolding rounded_of if◌then◌else◌
+unfolding rounded_of when◌then◌else◌
 below_theorem m e h = let q : min (nearest_of (m * up e) (down e)) 32768 ≡ nearest_of (m * up e) (down e) = omega arith in rw q
 
 -- .. and from there on the last number on its side, as of the infinities; 0 of a NaN
 pub past_theorem : (m : ℕ) (e : ℤ) → 32767 ≤ nearest_of (m * up e) (down e) → rounded_of (fin false m e) ≡ pos 32767
-unfolding rounded_of if◌then◌else◌
+unfolding rounded_of when◌then◌else◌
 past_theorem m e h = ap pos (omega arith)
 
 pub under_theorem : (m : ℕ) (e : ℤ) → 32768 ≤ nearest_of (m * up e) (down e) → rounded_of (fin true m e) ≡ minus 32768
-unfolding rounded_of if◌then◌else◌
+unfolding rounded_of when◌then◌else◌
 under_theorem m e h = let q : min (nearest_of (m * up e) (down e)) 32768 ≡ 32768 = omega arith in rw q
 
 pub not_finite : (rounded_of (inf false) ≡ pos 32767) × (rounded_of (inf true) ≡ minus 32768) × (rounded_of nan ≡ pos 0)
-unfolding rounded_of if◌then◌else◌
+unfolding rounded_of when◌then◌else◌
 not_finite = (refl, refl, refl)
 
 -- 2.5 and -2.5 go away from zero; the double before 0.5 goes to 0; 1 is 16,384; -5 saturates; a NaN's tap is 0
@@ -103,5 +103,5 @@ pub tap-examples :
     × (tap_of (fin false 1 (pos 0)) ≡ pos 16384)
     × (tap_of (fin true 5 (pos 0)) ≡ minus 32768)
     × (tap_of nan ≡ pos 0)
-unfolding rounded_of if◌then◌else◌ tap_of of_bits mul
+unfolding rounded_of when◌then◌else◌ tap_of of_bits mul
 tap-examples = (refl, refl, refl, refl, refl, refl)

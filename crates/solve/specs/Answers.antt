@@ -1,7 +1,7 @@
 -- What the solver answers: 9, "count 0 or over 4,194,304, or an entry of size over 2^53"; then 10, "a column's greatest squared magnitude is
 -- under 1e-24"; else 0 and the taps. "A refusal returns the number": the taps are then 0.
 use Rattle.std.specs.Prelude.{ℕ, zero, suc, ◌^◌, Bool, false, ◌||◌, List, length, ℤ, pos, ◌==◌, nat_lt, slice_index_or, unsigned_abs}
-use Rattle.laws.specs.Choice.{if◌then◌else◌}
+use Rattle.laws.specs.Choice.{when◌then◌else◌}
 use Rattle.solve_step.specs.Back.{solution_of}
 use Rattle.solve_step.specs.declared.Solution.{Solution}
 use Rattle.solve.specs.System.{sums_system}
@@ -28,7 +28,7 @@ unfoldable pub refused_by : ℕ → Solved
 refused_by n = record { refusal = n; taps = no_taps }
 
 unfoldable pub answer_of : Solution → Solved
-answer_of x = if x.refusal == 0 then record { refusal = 0; taps = taps_of x.x } else refused_by x.refusal
+answer_of x = when x.refusal == 0 then record { refusal = 0; taps = taps_of x.x } else refused_by x.refusal
 
 unfoldable pub solve_answer : Sums → Solved
-solve_answer s = if outside_of s then refused_by 9 else answer_of (solution_of (sums_system s))
+solve_answer s = when outside_of s then refused_by 9 else answer_of (solution_of (sums_system s))

@@ -2,7 +2,7 @@
 use Rattle.std.specs.Prelude.{ℕ, zero, suc, ◌+◌, ◌*◌, ◌/◌, ◌%◌, ◌^◌, ◌≤◌, List, [], ◌∷◌, ◌++◌, ℤ, pos, nat_lt, slice_index_or, unsigned_abs, Float}
 use Rattle.std.specs.Float.{binary64}
 use Rattle.std.specs.Float.Ieee.{of_int}
-use Rattle.laws.specs.Choice.{if◌then◌else◌}
+use Rattle.laws.specs.Choice.{when◌then◌else◌}
 use Rattle.solve_step.specs.Complex.{conjugate_of}
 use Rattle.solve_step.specs.declared.System.{System}
 use Rattle.solve_step.specs.declared.complex.Complex.{Complex}
@@ -20,7 +20,7 @@ pair_of l k = record { re = of_int binary64 (slice_index_or l (2 * k) (pos 0)); 
 -- row r and column c of the matrix: above the diagonal the sum of that place; on it and below, the conjugate of the mirror image. So a
 -- diagonal entry is the conjugate of its sum: `solve_float` stores this last, and an imaginary part 0 becomes -0.
 unfoldable pub entry_of : List ℤ → ℕ → ℕ → Complex
-entry_of l r c = if nat_lt r c then pair_of l (upper_at r c) else conjugate_of (pair_of l (upper_at c r))
+entry_of l r c = when nat_lt r c then pair_of l (upper_at r c) else conjugate_of (pair_of l (upper_at c r))
 
 -- the parts of f 0, f 1, .. f (n - 1) in turn
 unfoldable pub parts : (ℕ → Complex) → ℕ → List Float

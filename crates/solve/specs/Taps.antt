@@ -3,7 +3,7 @@
 use Rattle.std.specs.Prelude.{ℕ, ◌+◌, ◌-◌, ◌*◌, ◌/◌, ◌^◌, min, List, replicate, ℤ, pos, from_bits, slice_index_or, Float}
 use Rattle.std.specs.Float.{nan, inf, fin, binary64}
 use Rattle.std.specs.Float.Ieee.{mul, up, down}
-use Rattle.laws.specs.Choice.{if◌then◌else◌, minus}
+use Rattle.laws.specs.Choice.{when◌then◌else◌, minus}
 use Rattle.laws.specs.Ranges.{firsts}
 
 -- a / d rounded to the nearest whole number, halves up: the floor of a / d + 1/2
@@ -19,8 +19,8 @@ size_of (fin s m e) = min (nearest_of (m * up e) (down e)) (2 ^ 15)
 -- .. and with its sign, within -2^15 .. 2^15 - 1
 unfoldable pub rounded_of : Float → ℤ
 rounded_of nan = pos 0
-rounded_of (inf s) = if s then minus (2 ^ 15) else pos (2 ^ 15 - 1)
-rounded_of (fin s m e) = if s then minus (min (nearest_of (m * up e) (down e)) (2 ^ 15)) else pos (min (nearest_of (m * up e) (down e)) (2 ^ 15 - 1))
+rounded_of (inf s) = when s then minus (2 ^ 15) else pos (2 ^ 15 - 1)
+rounded_of (fin s m e) = when s then minus (min (nearest_of (m * up e) (down e)) (2 ^ 15)) else pos (min (nearest_of (m * up e) (down e)) (2 ^ 15 - 1))
 
 -- times 16,384
 unfoldable pub tap_of : Float → ℤ

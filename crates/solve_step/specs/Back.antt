@@ -2,7 +2,7 @@
 use Rattle.std.specs.Prelude.{List, ℕ, zero, suc, ◌+◌, ◌-◌, eqb, replicate, Float}
 use Rattle.std.specs.Float.{binary64}
 use Rattle.std.specs.Float.Ieee.{of_bits}
-use Rattle.laws.specs.Choice.{if◌then◌else◌}
+use Rattle.laws.specs.Choice.{when◌then◌else◌}
 use Rattle.solve_step.specs.Complex.{difference_of, product_of, quotient_of, entry_at, with_entry, place}
 use Rattle.solve_step.specs.Eliminate.{reduce_from}
 use Rattle.solve_step.specs.declared.complex.Complex.{Complex}
@@ -30,4 +30,4 @@ none_yet = replicate 22 (of_bits binary64 0)
 unfoldable pub solution_of : System → Solution
 solution_of s =
     let t = reduce_from s 0 11 in
-    if eqb t.refusal 0 then record { refusal = 0; x = back_from t.system none_yet 11 } else record { refusal = t.refusal; x = none_yet }
+    when eqb t.refusal 0 then record { refusal = 0; x = back_from t.system none_yet 11 } else record { refusal = t.refusal; x = none_yet }

@@ -5,7 +5,7 @@
 use Rattle.std.specs.Prelude.{List, ℕ, zero, suc, ◌+◌, ◌-◌, ◌<◌, Float}
 use Rattle.std.specs.Float.{binary64}
 use Rattle.std.specs.Float.Ieee.{lt, le, of_bits}
-use Rattle.laws.specs.Choice.{if◌then◌else◌}
+use Rattle.laws.specs.Choice.{when◌then◌else◌}
 use Rattle.solve_step.specs.Complex.{squared_of, entry_at, place}
 use Rattle.solve_step.specs.declared.pivot.Best.{Best}
 use Rattle.solve_step.specs.declared.pivot.Pivot.{Pivot}
@@ -17,7 +17,7 @@ tiny = of_bits binary64 0x3af3_57c2_99a8_8ea7
 
 -- row r, whose entry has size z, against the best so far
 unfoldable pub better_of : Best → ℕ → Float → Best
-better_of b r z = if le b.size z then record { row = r; size = z } else b
+better_of b r z = when le b.size z then record { row = r; size = z } else b
 
 -- n rows from r on are still to be seen
 unfoldable pub scan_from : List Float → ℕ → ℕ → Best → ℕ → Best
@@ -25,7 +25,7 @@ scan_from a c r b zero = b
 scan_from a c r b (suc n) = scan_from a c (suc r) (better_of b r (squared_of (entry_at a (place r c)))) n
 
 unfoldable pub judged_of : Best → Pivot
-judged_of b = if lt b.size tiny then TooSmall b.size else Row b.row b.size
+judged_of b = when lt b.size tiny then TooSmall b.size else Row b.row b.size
 
 -- of column c, from row c on
 unfoldable pub pivot_of : List Float → ℕ → Pivot

@@ -2,7 +2,7 @@
 use Prim.Native.Nat.{◌+◌, ◌-◌, ◌<◌, ◌^◌, ◌≤◌, suc, zero, ℕ}
 use Rattle.laws.proofs.Lists.{length-firsts}
 use Rattle.laws.proofs.Tests.{and_both, by_test}
-use Rattle.laws.specs.Choice.{if_no, if_yes, if◌then◌else◌}
+use Rattle.laws.specs.Choice.{if_no, if_yes, when◌then◌else◌}
 use Rattle.laws.specs.Ranges.{firsts}
 use Rattle.sync_corr.specs.Correlate.{both_of, ones_of}
 use Rattle.sync_corr.specs.declared.Both.{Both}
@@ -87,9 +87,9 @@ pub taking : (len : ℕ) (f w : List ℤ) (r : Run) → push_refusal len f w r �
 unfolding push_refusal
 taking len f w r h =
     let past = leb (2 ^ 62) (r.base + r.t) in
-    let n7 : ℕ = if past then 7 else 0 in
-    let n6 : ℕ = if run_in_range r then n7 else 6 in
-    let n2 : ℕ = if ones_of f && ones_of w then n6 else 2 in
+    let n7 : ℕ = when past then 7 else 0 in
+    let n6 : ℕ = when run_in_range r then n7 else 6 in
+    let n2 : ℕ = when ones_of f && ones_of w then n6 else 2 in
     by_test (eqb len 9296)
     (λ a. let h1 : n2 ≡ 0 = sym (if_yes (eqb len 9296) n2 1 a) ∙ h in
     by_test (ones_of f && ones_of w)

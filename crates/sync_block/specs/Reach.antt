@@ -1,6 +1,6 @@
 -- How many symbols come up to and with the first loud one: one that may tell something.
 use Rattle.std.specs.Prelude.{ℕ, ◌+◌, ◌-◌, ◌^◌, min, Bool, ◌&&◌, ◌||◌, eqb, leb, ltb}
-use Rattle.laws.specs.Choice.{if◌then◌else◌}
+use Rattle.laws.specs.Choice.{when◌then◌else◌}
 use Rattle.sync_lock.specs.declared.Lock.{Lock}
 use Rattle.sync_lock.specs.Rule.{locked_at}
 use Rattle.sync_step.specs.declared.Run.{Run}
@@ -12,11 +12,11 @@ loud r = leb 23 r.t && (eqb (place_of 9296 r.t) 9295 || locked_at r.lock (place_
 
 -- the place of the first loud window from place p on: the locked offset, if it is still to come in the period, else the last position
 unfoldable pub loud_place : Lock → ℕ → ℕ
-loud_place k p = if is_locked k && leb p (offset_of k) then offset_of k else 9295
+loud_place k p = when is_locked k && leb p (offset_of k) then offset_of k else 9295
 
 -- the symbols up to and with the first loud one (proofs/Laws.antt, `quiet-before`, `loud_last`); one, before the first window is complete
 unfoldable pub until_loud : Run → ℕ
-until_loud r = let p = place_of 9296 r.t in if ltb r.t 23 then 1 else loud_place r.lock p - p + 1
+until_loud r = let p = place_of 9296 r.t in when ltb r.t 23 then 1 else loud_place r.lock p - p + 1
 
 -- .. of those below position 2^62
 unfoldable pub reach_of : Run → ℕ

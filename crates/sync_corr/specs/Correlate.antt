@@ -1,6 +1,6 @@
 -- Correlation: document 01, "Position n correlates symbols n to n+23 with both words; its size is the larger `mag_approx`."
 use Rattle.std.specs.Prelude.{ℕ, zero, suc, ◌+◌, ◌*◌, max, Bool, true, ◌&&◌, List, eqb, ℤ, pos, nat_abs, ◌+ℤ◌, ◌-ℤ◌, ◌*ℤ◌, get_or}
-use Rattle.laws.specs.Choice.{if◌then◌else◌}
+use Rattle.laws.specs.Choice.{when◌then◌else◌}
 use Rattle.fx.specs.Fx.{mag_approx}
 use Rattle.sync_corr.specs.declared.Corr.{Corr}
 use Rattle.sync_corr.specs.declared.Both.{Both}
@@ -42,4 +42,4 @@ unfoldable pub ones_of : List ℤ → Bool
 ones_of w = ones_to w 48
 
 unfoldable pub correlate_answer : List ℤ → List ℤ → Correlated
-correlate_answer r w = if ones_of w then Value (corr r w) else Refused 2
+correlate_answer r w = when ones_of w then Value (corr r w) else Refused 2

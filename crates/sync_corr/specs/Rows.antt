@@ -1,18 +1,18 @@
 -- How the code correlates: with the two words as four rows. That this is the correlation is a law (proofs/Laws.antt, `dots_both`).
 use Rattle.std.specs.Prelude.{ℕ, zero, suc, ◌+◌, ◌-◌, ◌%◌, ◌≤◌, ◌<◌, List, eqb, ltb, ℤ, pos, nat_abs, neg_ℤ, ◌+ℤ◌, ◌*ℤ◌, set, replicate}
-use Rattle.laws.specs.Choice.{if◌then◌else◌}
+use Rattle.laws.specs.Choice.{when◌then◌else◌}
 use Rattle.sync_corr.specs.Correlate.{at}
 use Rattle.sync_corr.specs.declared.Both.{Both}
 use Rattle.sync_corr.specs.declared.Corr.{Corr}
 
 -- the row of an imaginary part: -w_q at 2k, w_i at 2k + 1
 unfoldable pub turned_at : List ℤ → ℕ → ℤ
-turned_at w j = if eqb (j % 2) 0 then neg_ℤ (at w (j + 1)) else at w (j - 1)
+turned_at w j = when eqb (j % 2) 0 then neg_ℤ (at w (j + 1)) else at w (j - 1)
 
 -- rows of 48: F real, F imaginary, S real, S imaginary
 unfoldable pub row_at : List ℤ → List ℤ → ℕ → ℤ
 row_at f s j =
-    if ltb j 48 then at f j else if ltb j 96 then turned_at f (j - 48) else if ltb j 144 then at s (j - 96) else turned_at s (j - 144)
+    when ltb j 48 then at f j else when ltb j 96 then turned_at f (j - 48) else when ltb j 144 then at s (j - 96) else turned_at s (j - 144)
 
 -- the first n entries, the rest 0
 unfoldable pub rows_to : List ℤ → List ℤ → ℕ → List ℤ

@@ -1,6 +1,6 @@
 -- Majority, marks, slot and frame numbers.
 use Rattle.std.specs.Prelude.{ℕ, ◌+◌, ◌-◌, ◌*◌, ◌/◌, ◌%◌, ◌^◌, min, max, Bool, true, false, ℤ, pos, ◌+ℤ◌, ◌-ℤ◌, ◌==◌, int_lt, nat_lt}
-use Rattle.laws.specs.Choice.{if◌then◌else◌, minus}
+use Rattle.laws.specs.Choice.{when◌then◌else◌, minus}
 use Rattle.sync_heads.specs.declared.Slot.{Slot}
 use Rattle.sync_heads.specs.declared.Slot.TheVariants.{Unknown, In}
 use Rattle.sync_heads.specs.declared.Record.{Record}
@@ -10,14 +10,14 @@ use Rattle.sync_heads.specs.declared.Marked.{Marked}
 
 -- a sign against a majority of size at least 2 marks a frame head
 unfoldable pub marks_of : Bool → ℤ → Bool
-marks_of positive m = if positive then int_lt m (minus 1) else int_lt (pos 1) m
+marks_of positive m = when positive then int_lt m (minus 1) else int_lt (pos 1) m
 
 -- "the majority of -8..8"
 unfoldable pub swayed_of : Bool → ℤ → ℤ
 swayed_of positive m =
-    if positive
-    then if int_lt m (pos 8) then m +ℤ pos 1 else pos 8
-    else if int_lt (minus 8) m then m -ℤ pos 1 else minus 8
+    when positive
+    then when int_lt m (pos 8) then m +ℤ pos 1 else pos 8
+    else when int_lt (minus 8) m then m -ℤ pos 1 else minus 8
 
 -- a frame has 120 slots
 unfoldable pub next_slot : Slot → Slot
@@ -66,16 +66,16 @@ with_sign c majority slot = record { majority = majority; slot = slot; last = c.
 -- at an expected frame head: a mark ends the misses; the first miss begins a frame too; "two missed markers in a row lose"
 unfoldable pub due_of : ℕ → Bool → Course → ℕ → Marked
 due_of n marked c at =
-    if marked
+    when marked
     then record { lost = false; course = framed_of n (with_misses c 0 c.missed) at }
-    else if nat_lt c.misses 1
+    else when nat_lt c.misses 1
     then record { lost = false; course = framed_of n (with_misses c (c.misses + 1) (tick_of c.missed)) at }
     else record { lost = true; course = c }
 
 -- where no frame head is expected: the first mark of all begins the numbers, any other is a stray
 unfoldable pub elsewhere_of : ℕ → Bool → Course → ℕ → Course
 elsewhere_of n marked c at =
-    if marked then if unknown_slot c.slot then framed_of n c at else with_stray c (tick_of c.stray) else c
+    when marked then when unknown_slot c.slot then framed_of n c at else with_stray c (tick_of c.stray) else c
 
 -- the course after an F head of this sign: the slot's number goes on, and the mark is judged by the majority before it
 unfoldable pub fsync_course : ℕ → Bool → Course → ℕ → Marked
@@ -83,4 +83,4 @@ fsync_course n positive c at =
     let marked = marks_of positive c.majority in
     let slot = next_slot c.slot in
     let d = with_sign c (swayed_of positive c.majority) slot in
-    if frame_due slot then due_of n marked d at else record { lost = false; course = elsewhere_of n marked d at }
+    when frame_due slot then due_of n marked d at else record { lost = false; course = elsewhere_of n marked d at }

@@ -1,6 +1,6 @@
 -- What a reading comes to.
 use Rattle.std.specs.Prelude.{ℕ, Bool, true, false, int_lt}
-use Rattle.laws.specs.Choice.{if◌then◌else◌}
+use Rattle.laws.specs.Choice.{when◌then◌else◌}
 use Rattle.fx.specs.Cordic.{cordic_of}
 use Rattle.sync_corr.specs.declared.Corr.{Corr}
 use Rattle.sync_heads.specs.Words.{margin_of, said_of}
@@ -41,7 +41,7 @@ unfoldable pub fsync_of : ℕ → Course → Reading → Corr → Told
 fsync_of n c r last =
     let w = said_of false r.both last in
     let m = fsync_course n (is_fsync w.word) c r.at in
-    if m.lost
+    when m.lost
     then record { lost = true; course = m.course; head = Nothing }
     else record { lost = false; course = m.course; head = One (head_of w r.at m.course.slot) }
 
@@ -70,7 +70,7 @@ fsync_taken n odd last c r =
 
 -- once the parity is known, they take turns
 unfoldable pub known_of : ℕ → Parity → Course → Reading → Taken
-known_of n p c r = if p.due then ssync_taken p.odd c r else fsync_taken n p.odd p.last c r
+known_of n p c r = when p.due then ssync_taken p.odd c r else fsync_taken n p.odd p.last c r
 
 -- head zero, an Ssync head, is told with head one
 unfoldable pub both_heads : ℕ → Reading → Course → Reading → Taken
@@ -81,7 +81,7 @@ both_heads n z c r =
 
 -- head one: head zero carries Ssync unless its margin is the lesser, and then it "stays silent"
 unfoldable pub first_of : ℕ → Reading → Course → Reading → Taken
-first_of n z c r = if int_lt (margin_of z.both) (margin_of r.both) then ssync_taken true c r else both_heads n z c r
+first_of n z c r = when int_lt (margin_of z.both) (margin_of r.both) then ssync_taken true c r else both_heads n z c r
 
 -- "head zero .. waits for head one"
 unfoldable pub read_of : ℕ → Stage → Course → Reading → Taken

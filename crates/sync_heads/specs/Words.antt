@@ -1,6 +1,6 @@
 -- The word of a head.
 use Rattle.std.specs.Prelude.{Bool, ℤ, pos, ◌+ℤ◌, ◌-ℤ◌, ◌*ℤ◌, neg_ℤ, int_lt}
-use Rattle.laws.specs.Choice.{if◌then◌else◌}
+use Rattle.laws.specs.Choice.{when◌then◌else◌}
 use Rattle.fx.specs.Fx.{mag_approx}
 use Rattle.sync_corr.specs.declared.Corr.{Corr}
 use Rattle.sync_corr.specs.declared.Both.{Both}
@@ -21,8 +21,8 @@ negated c = record { re = neg_ℤ c.re; im = neg_ℤ c.im }
 -- an F word is NotFsync if it points against the last Ssync head, and its correlation is told with the sign taken off
 unfoldable pub said_of : Bool → Both → Corr → Said
 said_of ssync b last =
-    if ssync
+    when ssync
     then record { word = Ssync; corr = b.s }
-    else if int_lt (side_of b.f last) (pos 0)
+    else when int_lt (side_of b.f last) (pos 0)
     then record { word = NotFsync; corr = negated b.f }
     else record { word = Fsync; corr = b.f }

@@ -2,7 +2,7 @@
 use Prim.Native.Nat.{◌%◌, ◌*◌, ◌+◌, ◌-◌, ◌/◌, ◌<◌, ◌^◌, suc, ℕ}
 use Rattle.laws.proofs.Tests.{and_both, by_test, never}
 use Rattle.laws.specs.Choice as choice
-use Rattle.laws.specs.Choice.{if_no, if_yes, if◌then◌else◌, minus}
+use Rattle.laws.specs.Choice.{if_no, if_yes, when◌then◌else◌, minus}
 use Rattle.sync_corr.specs.declared.Both.{Both}
 use Rattle.sync_heads.specs.Frames.{due_of, elsewhere_of, frame_due, frame_of, framed_of, fsync_course, gap_of, marks_of, next_slot, swayed_of, tick_of, unknown_slot, with_sign}
 use Rattle.sync_heads.specs.declared.Course.{Course}
@@ -63,44 +63,44 @@ module _ (n at : ℕ) (p : Bool) (m : ℤ) (l : Record) (k a d : ℕ) where
 
   -- without numbers
   head_first : marks_of p m ≡ true → fsync_course n p (course_of Unknown) at ≡ framed k d
-  unfolding fsync_course next_slot frame_due elsewhere_of unknown_slot framed_of choice.if◌then◌else◌
+  unfolding fsync_course next_slot frame_due elsewhere_of unknown_slot framed_of choice.when◌then◌else◌
   head_first e = rw e
 
   head-none : marks_of p m ≡ false → fsync_course n p (course_of Unknown) at ≡ record { lost = false; course = record { majority = swayed_of p m; slot = Unknown; last = l; misses = k; stray = a; missed = d } }
-  unfolding fsync_course next_slot frame_due elsewhere_of unknown_slot choice.if◌then◌else◌
+  unfolding fsync_course next_slot frame_due elsewhere_of unknown_slot choice.when◌then◌else◌
   head-none e = rw e
 
   -- where a mark is expected
   module _ (r g : ℕ) where
     head-marked : marks_of p m ≡ true → (r + 1) % 120 ≡ 0 → fsync_course n p (course_of (In r g)) at ≡ framed 0 d
-    unfolding fsync_course next_slot frame_due due_of framed_of choice.if◌then◌else◌
+    unfolding fsync_course next_slot frame_due due_of framed_of choice.when◌then◌else◌
     head-marked e z = rw (e, z)
 
     head-missed : marks_of p m ≡ false → (r + 1) % 120 ≡ 0 → ltb k 1 ≡ true → fsync_course n p (course_of (In r g)) at ≡ framed (k + 1) (tick_of d)
-    unfolding fsync_course next_slot frame_due due_of framed_of choice.if◌then◌else◌
+    unfolding fsync_course next_slot frame_due due_of framed_of choice.when◌then◌else◌
     head-missed e z t = rw (e, z, t)
 
     head-loses : marks_of p m ≡ false → (r + 1) % 120 ≡ 0 → ltb k 1 ≡ false →
         fsync_course n p (course_of (In r g)) at ≡ record { lost = true; course = record { majority = swayed_of p m; slot = In 0 g; last = l; misses = k; stray = a; missed = d } }
-    unfolding fsync_course next_slot frame_due due_of framed_of choice.if◌then◌else◌
+    unfolding fsync_course next_slot frame_due due_of framed_of choice.when◌then◌else◌
     head-loses e z t = rw (e, z, t)
 
     -- elsewhere
     head-stray : marks_of p m ≡ true → (q : ℕ) → (r + 1) % 120 ≡ q → eqb q 0 ≡ false →
         fsync_course n p (course_of (In r g)) at ≡ record { lost = false; course = record { majority = swayed_of p m; slot = In q g; last = l; misses = k; stray = tick_of a; missed = d } }
-    unfolding fsync_course next_slot frame_due elsewhere_of unknown_slot choice.if◌then◌else◌
+    unfolding fsync_course next_slot frame_due elsewhere_of unknown_slot choice.when◌then◌else◌
     head-stray e q z t = rw (e, z, t)
 
     head_plain : marks_of p m ≡ false → (q : ℕ) → (r + 1) % 120 ≡ q → eqb q 0 ≡ false →
         fsync_course n p (course_of (In r g)) at ≡ record { lost = false; course = record { majority = swayed_of p m; slot = In q g; last = l; misses = k; stray = a; missed = d } }
-    unfolding fsync_course next_slot frame_due elsewhere_of unknown_slot choice.if◌then◌else◌
+    unfolding fsync_course next_slot frame_due elsewhere_of unknown_slot choice.when◌then◌else◌
     head_plain e q z t = rw (e, z, t)
 
 module _ (n start : ℕ) (kept : Record) (b : ℕ → Both) where
   -- no mark at the last frame head
   unfoldable pub held_since : Option ℕ → ℕ → ℕ
   held_since none i = 0
-  held_since (some f) i = if marked_at b (f + (i - 1 - f) / 120 * 120) then 0 else 1
+  held_since (some f) i = when marked_at b (f + (i - 1 - f) / 120 * 120) then 0 else 1
 
   unfoldable pub course_since : Option ℕ → ℕ → Course
   course_since o i =
@@ -122,11 +122,11 @@ module _ (n start : ℕ) (kept : Record) (b : ℕ → Both) where
   unfolding majority
   majority-f i f =
       sway_is (positive_at b i) (majority b i) (majority_small b i)
-      ∙ sym (if_yes (f_at b i) (clamped (majority b i +ℤ (if positive_at b i then pos 1 else minus 1))) (majority b i) f)
+      ∙ sym (if_yes (f_at b i) (clamped (majority b i +ℤ (when positive_at b i then pos 1 else minus 1))) (majority b i) f)
 
   majority-other : (i : ℕ) → f_at b i ≡ false → majority b i ≡ majority b (suc i)
   unfolding majority
-  majority-other i f = sym (if_no (f_at b i) (clamped (majority b i +ℤ (if positive_at b i then pos 1 else minus 1))) (majority b i) f)
+  majority-other i f = sym (if_no (f_at b i) (clamped (majority b i +ℤ (when positive_at b i then pos 1 else minus 1))) (majority b i) f)
 
   strays-more : (i : ℕ) → stray_at b i ≡ true → tick_of (capped (strays_to b i)) ≡ capped (strays_to b (suc i))
   unfolding strays_to
@@ -243,7 +243,7 @@ module _ (n start : ℕ) (kept : Record) (b : ℕ → Both) where
         Last (position_at n start kept b i) (frame_of n (position_at n start kept b i) (record_since n start kept b (some f) i)) ≡ record_since n start kept b (some f) (suc i)
     record-new z d = ap (Last (position_at n start kept b i)) (frame-new z d) ∙ record-here d
 
-    held_new : expected f i ≡ true → (if marked_at b i then 0 else 1) ≡ held_since (some f) (suc i)
+    held_new : expected f i ≡ true → (when marked_at b i then 0 else 1) ≡ held_since (some f) (suc i)
     unfolding held_since
     held_new d = rw (back, here d)
 

@@ -1,7 +1,7 @@
 -- The first number below another that passes a test. Assumes nothing.
 use Prim.Native.Nat.{◌<◌, suc, zero, ℕ}
 use Rattle.laws.proofs.Tests.{by_test, never}
-use Rattle.laws.specs.Choice.{if◌then◌else◌}
+use Rattle.laws.specs.Choice.{when◌then◌else◌}
 use Rattle.sync_history.specs.History.{earlier, first_to}
 use borrow.Author.Tests.{eqb-false, eqb-true, ltb-false, ltb-true}
 use lib.Dec.{eqb, ltb}
@@ -30,11 +30,11 @@ module _ (t : ℕ → Bool) where
   first_stays i f e = rw e
 
   pub first-begins : (i : ℕ) → first_to t i ≡ none → t i ≡ true → first_to t (suc i) ≡ some i
-  unfolding first_to earlier if◌then◌else◌
+  unfolding first_to earlier when◌then◌else◌
   first-begins i e m = rw (e, m)
 
   pub first-waits : (i : ℕ) → first_to t i ≡ none → t i ≡ false → first_to t (suc i) ≡ none
-  unfolding first_to earlier if◌then◌else◌
+  unfolding first_to earlier when◌then◌else◌
   first-waits i e m = rw (e, m)
 
   -- what it means

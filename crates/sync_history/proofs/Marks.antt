@@ -6,7 +6,7 @@ use mathlib.Core.Path.{◌≡◌, refl}
 use lib.Dec.{eqb}
 use lib.IntN.{pos}
 use Rattle.laws.specs.Choice as choice
-use Rattle.laws.specs.Choice.{if◌then◌else◌, minus}
+use Rattle.laws.specs.Choice.{when◌then◌else◌, minus}
 use Rattle.fx.specs.Fx.{mag_approx}
 use Rattle.sync_corr.specs.declared.Both.{Both}
 use Rattle.sync_corr.specs.declared.Corr.{Corr}
@@ -28,9 +28,9 @@ word a b j =
     let none : Corr = record { re = pos 0; im = pos 0 } in
     let plus : Corr = record { re = pos 5; im = pos 0 } in
     let less : Corr = record { re = minus 5; im = pos 0 } in
-    if eqb (j % 2) 0
+    when eqb (j % 2) 0
     then record { f = none; s = plus }
-    else if eqb j a || eqb j b
+    else when eqb j a || eqb j b
     then record { f = less; s = none }
     else record { f = plus; s = none }
 
@@ -52,7 +52,7 @@ pub record MarkerRuns : Type 0 where
   pub loses : (readings 5 5 246).lost ≡ true
 
 pub marker_runs : MarkerRuns
-unfolding word readings read_of first_of both_heads known_of fsync_taken ssync_taken fsync_of ssync_of is_fsync said_of negated margin_of side_of mag_approx fsync_course elsewhere_of due_of tick_of framed_of frame_of gap_of frame_due unknown_slot next_slot swayed_of marks_of choice.if◌then◌else◌
+unfolding word readings read_of first_of both_heads known_of fsync_taken ssync_taken fsync_of ssync_of is_fsync said_of negated margin_of side_of mag_approx fsync_course elsewhere_of due_of tick_of framed_of frame_of gap_of frame_due unknown_slot next_slot swayed_of marks_of choice.when◌then◌else◌
 marker_runs = record { first_mark = refl; second_mark = (refl, refl); missed = (refl, refl, refl); held = refl; loses = refl }
 
 -- the same by the rules alone: the first mark begins the numbers, a mark a frame later is expected, one miss does not lose, two in a row do
@@ -66,7 +66,7 @@ pub record RuleRuns : Type 0 where
   pub kept : record_to 9296 37184 Never (word 5 5) 245 ≡ Last (37184 + 125 * 9296) 1
 
 pub rule_runs : RuleRuns
-unfolding word parity ssync_at f_at positive_at majority clamped marked_at first_to earlier expected missed_since missed_at markers_lose stray_since stray_at slot_at slot_since frame_at frame_of position_at record_to record_since negated margin_of side_of mag_approx choice.if◌then◌else◌
+unfolding word parity ssync_at f_at positive_at majority clamped marked_at first_to earlier expected missed_since missed_at markers_lose stray_since stray_at slot_at slot_since frame_at frame_of position_at record_to record_since negated margin_of side_of mag_approx choice.when◌then◌else◌
 rule_runs = record { first_mark = refl; second_mark = refl; numbers = (refl, refl); missed = (refl, refl); stray = refl; loses = refl; kept = refl }
 
 -- so a loss by markers happens

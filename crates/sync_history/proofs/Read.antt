@@ -2,7 +2,7 @@
 use Prim.Native.Nat.{◌%◌, ◌-◌, ◌<◌, ◌≤◌, suc, zero, ℕ}
 use Rattle.laws.proofs.Tests.{and_both, by_test, if_both, if_either, never}
 use Rattle.laws.specs.Choice as choice
-use Rattle.laws.specs.Choice.{if_no, if_yes, if◌then◌else◌}
+use Rattle.laws.specs.Choice.{if_no, if_yes, when◌then◌else◌}
 use Rattle.sync_corr.specs.declared.Both.{Both}
 use Rattle.sync_corr.specs.declared.Corr.{Corr}
 use Rattle.sync_heads.specs.Frames.{next_slot, with_sign}
@@ -73,17 +73,17 @@ module _ (n start : ℕ) (kept : Record) (b : ℕ → Both) where
   slot-after i = let e : suc i - 1 ≡ i = omega arith in rw e
 
   said-ssync : (i : ℕ) (c : Corr) → ssync_at b i ≡ true → said_of true (b i) c ≡ record { word = word_at b i; corr = corr_at b i }
-  unfolding said_of word_at corr_at choice.if◌then◌else◌
+  unfolding said_of word_at corr_at choice.when◌then◌else◌
   said-ssync i c e = rw e
 
   said-f : (i : ℕ) → ssync_at b (suc i) ≡ false → said_of false (b (suc i)) (b i).s ≡ record { word = word_at b (suc i); corr = corr_at b (suc i) }
-  unfolding said_of word_at corr_at positive_at choice.if◌then◌else◌
+  unfolding said_of word_at corr_at positive_at choice.when◌then◌else◌
   said-f i e =
       let g : suc i - 1 ≡ i = omega arith in
       by_test (lt_z (side_of (b (suc i)).f (b i).s) (pos 0)) (λ t. rw (e, g, t) refl) (λ t. rw (e, g, t) refl)
 
   positive-is : (i : ℕ) → ssync_at b (suc i) ≡ false → is_fsync (word_at b (suc i)) ≡ positive_at b (suc i)
-  unfolding word_at is_fsync choice.if◌then◌else◌
+  unfolding word_at is_fsync choice.when◌then◌else◌
   positive-is i e = by_test (positive_at b (suc i)) (λ t. rw (e, t) refl) (λ t. rw (e, t) refl)
 
   head-is : (i : ℕ) (w : Said) (s : Slot) → w ≡ record { word = word_at b i; corr = corr_at b i } → s ≡ slot_at n start kept b i → head_of w (position_at n start kept b i) s ≡ head_at n start kept b i
@@ -101,7 +101,7 @@ module _ (n start : ℕ) (kept : Record) (b : ℕ → Both) where
   -- an F head
   record Tells (i : ℕ) (t : Told) : Type 0 where
     lost : t.lost ≡ markers_lose b i
-    head : t.head ≡ (if markers_lose b i then Nothing else One (head_at n start kept b i))
+    head : t.head ≡ (when markers_lose b i then Nothing else One (head_at n start kept b i))
     on : markers_lose b i ≡ false → t.course ≡ course_to n start kept b (suc i)
     last : markers_lose b i ≡ true → t.course.last ≡ record_to n start kept b i
 
@@ -131,7 +131,7 @@ module _ (n start : ℕ) (kept : Record) (b : ℕ → Both) where
   stage_to zero = Before
   stage_to (suc zero) = First (record { at = position_at n start kept b 0; both = b 0 })
   stage_to (suc (suc i)) =
-      Known (record { odd = lt_z (margin_of (b 0)) (margin_of (b 1)); due = ssync_at b (suc (suc i)); last = if ssync_at b (suc i) then (b (suc i)).s else (b i).s })
+      Known (record { odd = lt_z (margin_of (b 0)) (margin_of (b 1)); due = ssync_at b (suc (suc i)); last = when ssync_at b (suc i) then (b (suc i)).s else (b i).s })
 
   -- what reading i comes to, from what the first i came to
   pub record ReadIs (i : ℕ) (k : Taken) : Type 0 where
@@ -177,7 +177,7 @@ module _ (n start : ℕ) (kept : Record) (b : ℕ → Both) where
   known_read i z =
       let c = course_to n start kept b (suc (suc i)) in
       let r = reading (suc (suc i)) in
-      let f = fsync_taken n odd (if ssync_at b (suc i) then (b (suc i)).s else (b i).s) c r in
+      let f = fsync_taken n odd (when ssync_at b (suc i) then (b (suc i)).s else (b i).s) c r in
       if_either (ReadIs (suc (suc i))) (ssync_at b (suc (suc i))) (ssync_taken odd c r) f (ssync-read i)
       (λ e. rw (if_yes (ssync_at b (suc i)) (b (suc i)).s (b i).s (before i e)) (f-read i z e))
     where
@@ -289,7 +289,7 @@ module _ (n start : ℕ) (kept : Record) (b : ℕ → Both) where
   course-missed i = refl
 
   -- the record after reading i
-  pub read-last : (i : ℕ) (k : Taken) → ReadIs i k → k.course.last ≡ (if markers_lose b i then record_to n start kept b i else record_to n start kept b (suc i))
+  pub read-last : (i : ℕ) (k : Taken) → ReadIs i k → k.course.last ≡ (when markers_lose b i then record_to n start kept b i else record_to n start kept b (suc i))
   read-last i k r =
       by_test (markers_lose b i)
       (λ m. r.last m ∙ sym (if_yes (markers_lose b i) (record_to n start kept b i) (record_to n start kept b (suc i)) m))

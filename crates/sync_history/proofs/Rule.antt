@@ -1,7 +1,7 @@
 -- The lock rule over the periods records what happened: by induction on the periods, as long as none loses. Assumes nothing.
 use Prim.Native.Nat.{◌+◌, ◌-◌, ◌<◌, ◌≤◌, suc, zero, ℕ}
 use Rattle.laws.proofs.Tests.{and_both, by_test, if_both, if_either, never}
-use Rattle.laws.specs.Choice.{if_no, if◌then◌else◌}
+use Rattle.laws.specs.Choice.{if_no, when◌then◌else◌}
 use Rattle.sync_history.proofs.Locks.{one_lock}
 use Rattle.sync_history.specs.Claims.{LockedBy, LosesIn, RuleTells, lock_to}
 use Rattle.sync_history.specs.History.{CountsAt, Eighth, Fourth, LockIn, figures}
@@ -135,7 +135,7 @@ module _ (n : ℕ) (s : ℕ → ℕ) where
       (subst (λ x. Row (suc k) x (count + 1)) (sym same) (row_more k cand count i.rows (record { counts = c.counts; place = same })), omega (arith, i.few))
 
   -- one that counts
-  row-counting : (k cand count : ℕ) → Searching k cand count → CountsAt n s (figures n s k).place k → Counted k (if eqb (figures n s k).place cand then count + 1 else 1)
+  row-counting : (k cand count : ℕ) → Searching k cand count → CountsAt n s (figures n s k).place k → Counted k (when eqb (figures n s k).place cand then count + 1 else 1)
   row-counting k cand count i c =
       if_either (Counted k) (eqb (figures n s k).place cand) (count + 1) 1
       (λ e. row_same k cand count i c (eqb-true (figures n s k).place cand e))
@@ -145,7 +145,7 @@ module _ (n : ℕ) (s : ℕ → ℕ) where
   sought : (k cand count : ℕ) → Searching k cand count → Counted k (sought_of (counts_of n (figures n s k)) (figures n s k).place cand count)
   unfolding sought_of
   sought k cand count i =
-      if_either (Counted k) (counts_of n (figures n s k)) (if eqb (figures n s k).place cand then count + 1 else 1) 0
+      if_either (Counted k) (counts_of n (figures n s k)) (when eqb (figures n s k).place cand then count + 1 else 1) 0
       (λ t. row-counting k cand count i (counts-here k t))
       (λ t. (row-none k (counts-nowhere k t), omega arith))
 
@@ -189,7 +189,7 @@ module _ (n : ℕ) (s : ℕ → ℕ) where
   unfolding rule_of search_of lock_after
   search-step k cand count i = go (sought_of (counts_of n (figures n s k)) (figures n s k).place cand count) (sought k cand count i)
     where
-      go : (c : ℕ) → Counted k c → Means (suc k) (lock_after (if ltb c 4 then Seeks (figures n s k).place c else Locks (figures n s k).place))
+      go : (c : ℕ) → Counted k c → Means (suc k) (lock_after (when ltb c 4 then Seeks (figures n s k).place c else Locks (figures n s k).place))
       go c r =
           if_either (λ (v : Verdict). Means (suc k) (lock_after v)) (ltb c 4) (Seeks (figures n s k).place c) (Locks (figures n s k).place)
           (λ e. seeks k (figures n s k).place c r.0 (ltb-true c 4 e) i.unlocked)

@@ -15,7 +15,7 @@ use mathlib.Core.Bool.{Bool, ◌&&◌, false, true}
 use mathlib.Core.List.{List, [], ◌++◌, ◌∷◌}
 use mathlib.Core.Path.{◌≡◌, ap, refl, subst, sym}
 use native.Mathlib.Omega.{arith}
-use Rattle.laws.specs.Choice.{if◌then◌else◌}
+use Rattle.laws.specs.Choice.{when◌then◌else◌}
 use Rattle.sync_lock.specs.declared.Verdict.TheVariants.{Seeks, Locks, Holds, Loses}
 
 -- ---- the sizes
@@ -44,7 +44,7 @@ pub record Runs : Type 0 where
 
 -- all five
 pub runs : Runs
-unfolding end_of repeated sizes later lock_to figures figures_to acc_after leak_of no_tally added_of counts_of sought_of search_of held_of rule_of lock_after if◌then◌else◌
+unfolding end_of repeated sizes later lock_to figures figures_to acc_after leak_of no_tally added_of counts_of sought_of search_of held_of rule_of lock_after when◌then◌else◌
 runs = record { third_seeks = refl; fourth_locks = refl; seventh_misses = refl; eighth_loses = refl; relocks = refl }
 
 -- ---- so it happened
@@ -81,7 +81,7 @@ on_fourth n s p b = record { period = b.period; ends = ap (end_of n) (omega (ari
 
 -- by computing
 runs_keep : (keeps 3 sizes 4 ≡ true) × (keeps 3 sizes 11 ≡ true) × (keeps 3 later 4 ≡ true)
-unfolding kept keeps end_of repeated sizes later lock_to figures figures_to acc_after leak_of no_tally added_of counts_of sought_of search_of held_of rule_of lock_after if◌then◌else◌
+unfolding kept keeps end_of repeated sizes later lock_to figures figures_to acc_after leak_of no_tally added_of counts_of sought_of search_of held_of rule_of lock_after when◌then◌else◌
 runs_keep = (refl, refl, refl)
 
 -- a lock at place 1, on symbol 35

@@ -1,6 +1,6 @@
 -- All that specs/Claims.antt states, proved; and the lock at the period 9,296. Assumes nothing.
 use Prim.Native.Nat.{◌%◌, ◌*◌, ◌+◌, ◌-◌, ◌<◌, ◌≤◌, ℕ}
-use Rattle.laws.specs.Choice.{if_no, if_yes, if◌then◌else◌}
+use Rattle.laws.specs.Choice.{if_no, if_yes, when◌then◌else◌}
 use Rattle.sync_history.proofs.Locks.{one_symbol}
 use Rattle.sync_history.specs.Claims.{Locks}
 use Rattle.sync_history.specs.History.{LockBy, LockOn, LossBy, Premise, acc_after, figures, figures_to}
@@ -53,7 +53,7 @@ lock_theorem place P Q s symbols pr = record {
 -- ---- the premise can be met
 -- P at one place of each period, Q elsewhere
 unfoldable pub levels : ℕ → ℕ → ℕ → ℕ → ℕ → ℕ
-levels n place P Q j = if eqb (j % n) place then P else Q
+levels n place P Q j = when eqb (j % n) place then P else Q
 
 -- meets it, on any number of positions
 pub levels_meet : (n place P Q m : ℕ) → place < n → 4 * Q + 8 ≤ P → Premise n place P Q (levels n place P Q) m
@@ -75,5 +75,5 @@ eight_lasts place m h = (lock_theorem place 8 0 (levels 9296 place 8 0) m (level
 
 -- 9 is the least period at which the premise locks: at 8, with P = 200 and Q = 48, period 0 does not count
 pub eight_too_short : counts_of 8 (figures 8 (levels 8 0 200 48) 0) ≡ false
-unfolding levels figures figures_to acc_after leak_of no_tally added_of counts_of if◌then◌else◌
+unfolding levels figures figures_to acc_after leak_of no_tally added_of counts_of when◌then◌else◌
 eight_too_short = refl

@@ -1,7 +1,7 @@
 -- What is claimed of the lock, on the sizes alone, and of the heads, on the readings alone; proofs/Theorems.antt proves it. n is the period.
 use Rattle.std.specs.Prelude.{true, false, ◌≡◌, pos, ℕ, zero, suc, ◌+◌, ◌*◌, ◌/◌, ◌≤◌, ◌<◌}
 use Rattle.std.proofs.Math.Option.{some}
-use Rattle.laws.specs.Choice.{if◌then◌else◌}
+use Rattle.laws.specs.Choice.{when◌then◌else◌}
 use Rattle.sync_corr.specs.declared.Both.{Both}
 use Rattle.sync_heads.specs.declared.Record.{Record}
 use Rattle.sync_heads.specs.declared.Slot.TheVariants.{Unknown}
@@ -102,7 +102,7 @@ module _ (n start : ℕ) (kept : Record) (b : ℕ → Both) where
     pub first : (read_at i).first ≡ first_told n start kept b i
     pub second : (read_at i).second ≡ second_told n start kept b i
     -- the losing head makes no frame record
-    pub last : (read_at i).course.last ≡ (if markers_lose b i then record_to n start kept b i else record_to n start kept b (suc i))
+    pub last : (read_at i).course.last ≡ (when markers_lose b i then record_to n start kept b i else record_to n start kept b (suc i))
     pub stray : markers_lose b i ≡ false → (read_at i).course.stray ≡ capped (strays_to b (suc i))
     pub missed : markers_lose b i ≡ false → (read_at i).course.missed ≡ capped (misses_to b (suc i))
 

@@ -3,7 +3,7 @@
 use Rattle.std.specs.Prelude.{ℕ, zero, suc, ◌+◌, ◌-◌, ◌*◌, ◌/◌, ◌%◌, ◌^◌, ◌<◌, min, Bool, true, false, not, ◌&&◌, ◌≡◌, eqb, leb, ltb, ℤ, pos, nat_abs, ◌+ℤ◌}
 use Rattle.std.proofs.Math.Option.{Option, none, some}
 use Rattle.std.specs.Int.Signed.{lt_z}
-use Rattle.laws.specs.Choice.{if◌then◌else◌, minus}
+use Rattle.laws.specs.Choice.{when◌then◌else◌, minus}
 use Rattle.fx.specs.Cordic.{cordic_of}
 use Rattle.sync_corr.specs.declared.Corr.{Corr}
 use Rattle.sync_corr.specs.declared.Both.{Both}
@@ -22,7 +22,7 @@ use Rattle.sync_history.specs.History.{first_to}
 
 -- held within -8..8
 unfoldable pub clamped : ℤ → ℤ
-clamped z = if lt_z z (minus 8) then minus 8 else if lt_z (pos 8) z then pos 8 else z
+clamped z = when lt_z z (minus 8) then minus 8 else when lt_z (pos 8) z then pos 8 else z
 
 -- "a frame 120 slots": a head is expected to be marked if it stands a whole number of frames, at least one, after the first marked head f
 unfoldable pub expected : ℕ → ℕ → Bool
@@ -36,7 +36,7 @@ module _ (b : ℕ → Both) where
   -- ---- words
   -- "head 0 carries SSync when its S-minus-F margin is the larger", and with it the even heads; if head one's margin is larger the odd heads do
   unfoldable pub parity : ℕ
-  parity = if lt_z (margin_of (b 0)) (margin_of (b 1)) then 1 else 0
+  parity = when lt_z (margin_of (b 0)) (margin_of (b 1)) then 1 else 0
 
   unfoldable pub ssync_at : ℕ → Bool
   ssync_at i = eqb (i % 2) parity
@@ -50,21 +50,21 @@ module _ (b : ℕ → Both) where
   positive_at i = not (lt_z (side_of (b i).f (b (i - 1)).s) (pos 0))
 
   unfoldable pub word_at : ℕ → Word
-  word_at i = if ssync_at i then Ssync else if positive_at i then Fsync else NotFsync
+  word_at i = when ssync_at i then Ssync else when positive_at i then Fsync else NotFsync
 
   -- the correlation with its word, the sign taken off
   unfoldable pub corr_at : ℕ → Corr
-  corr_at i = if ssync_at i then (b i).s else if positive_at i then (b i).f else negated (b i).f
+  corr_at i = when ssync_at i then (b i).s else when positive_at i then (b i).f else negated (b i).f
 
   -- ---- marks
   -- "the majority of -8..8": that of the F heads before head i, each with its sign, 1 or -1
   unfoldable pub majority : ℕ → ℤ
   majority zero = pos 0
-  majority (suc i) = if f_at i then clamped (majority i +ℤ (if positive_at i then pos 1 else minus 1)) else majority i
+  majority (suc i) = when f_at i then clamped (majority i +ℤ (when positive_at i then pos 1 else minus 1)) else majority i
 
   -- an F head is marked by a sign against a majority of size 2 or more
   unfoldable pub marked_at : ℕ → Bool
-  marked_at i = f_at i && leb 2 (nat_abs (majority i)) && (if positive_at i then lt_z (majority i) (pos 0) else lt_z (pos 0) (majority i))
+  marked_at i = f_at i && leb 2 (nat_abs (majority i)) && (when positive_at i then lt_z (majority i) (pos 0) else lt_z (pos 0) (majority i))
 
   -- head f is the first marked one: there the numbers begin
   pub record Begins (f : ℕ) : Type 0 where
@@ -112,11 +112,11 @@ module _ (b : ℕ → Both) where
 
   unfoldable pub strays_to : ℕ → ℕ
   strays_to zero = 0
-  strays_to (suc i) = strays_to i + (if stray_at i then 1 else 0)
+  strays_to (suc i) = strays_to i + (when stray_at i then 1 else 0)
 
   unfoldable pub misses_to : ℕ → ℕ
   misses_to zero = 0
-  misses_to (suc i) = misses_to i + (if missed_at i then 1 else 0)
+  misses_to (suc i) = misses_to i + (when missed_at i then 1 else 0)
 
 -- ---- numbers: n is the period, `start` the position of reading 0, `kept` the frame record from before the lock
 module _ (n start : ℕ) (kept : Record) (b : ℕ → Both) where
@@ -158,10 +158,10 @@ module _ (n start : ℕ) (kept : Record) (b : ℕ → Both) where
   -- the heads that reading i tells, in order: head zero "waits for head one, and stays silent if it is no Ssync"; a reading that loses tells none
   unfoldable pub first_told : ℕ → Headed
   first_told zero = Nothing
-  first_told (suc zero) = if ssync_at b 0 then One (head_at 0) else One (head_at 1)
-  first_told (suc (suc i)) = if markers_lose b (suc (suc i)) then Nothing else One (head_at (suc (suc i)))
+  first_told (suc zero) = when ssync_at b 0 then One (head_at 0) else One (head_at 1)
+  first_told (suc (suc i)) = when markers_lose b (suc (suc i)) then Nothing else One (head_at (suc (suc i)))
 
   unfoldable pub second_told : ℕ → Headed
   second_told zero = Nothing
-  second_told (suc zero) = if ssync_at b 0 then One (head_at 1) else Nothing
+  second_told (suc zero) = when ssync_at b 0 then One (head_at 1) else Nothing
   second_told (suc (suc i)) = Nothing

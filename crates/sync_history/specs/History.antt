@@ -1,7 +1,7 @@
 -- The lock and its loss, on the sizes of the positions alone: s i is the size of position i, n the period (9,296). No state is recorded here.
 use Rattle.std.specs.Prelude.{◌≢◌, ◌≡◌, Bool, true, not, ◌&&◌, eqb, leb, ℕ, zero, suc, ◌+◌, ◌-◌, ◌*◌, ◌%◌, ◌≤◌, ◌<◌}
 use Rattle.std.proofs.Math.Option.{Option, none, some}
-use Rattle.laws.specs.Choice.{if◌then◌else◌}
+use Rattle.laws.specs.Choice.{when◌then◌else◌}
 use Rattle.sync_lock.specs.Period.{leak_of, no_tally, added_of, counts_of}
 use Rattle.sync_lock.specs.declared.Tally.{Tally}
 
@@ -75,7 +75,7 @@ earlier none x = x
 
 unfoldable pub first_to : (ℕ → Bool) → ℕ → Option ℕ
 first_to t zero = none
-first_to t (suc i) = earlier (first_to t i) (if t i then some i else none)
+first_to t (suc i) = earlier (first_to t i) (when t i then some i else none)
 
 -- period k counts, with its peak at p
 unfoldable pub counts_at : ℕ → (ℕ → ℕ) → ℕ → ℕ → Bool

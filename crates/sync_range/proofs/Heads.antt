@@ -4,7 +4,7 @@ use Prim.Native.Nat.{◌%◌, ◌+◌, ◌-◌, ◌/◌, ◌≤◌, suc, ℕ}
 use Rattle.laws.proofs.Linear.{dif_ud, size_le, size_ud, sum_ud, test_le, test_lt}
 use Rattle.laws.proofs.Size.{abs_add, abs_sub}
 use Rattle.laws.proofs.Tests.{if_both, if_either, never}
-use Rattle.laws.specs.Choice.{if◌then◌else◌, minus}
+use Rattle.laws.specs.Choice.{when◌then◌else◌, minus}
 use Rattle.sync_corr.specs.declared.Corr.{Corr}
 use Rattle.sync_heads.specs.Frames.{due_of, elsewhere_of, frame_due, frame_of, framed_of, fsync_course, marks_of, next_slot, swayed_of, tick_of, unknown_slot, with_misses, with_sign}
 use Rattle.sync_heads.specs.Heads.{both_heads, first_of, fsync_of, fsync_taken, known_of, read_of, ssync_of, ssync_taken}
@@ -203,7 +203,7 @@ before_fits n b h c r e g z = ((rw e, z), later-course h ((h - 0) / 2) ((suc h -
 -- head one carries Ssync, head zero stays silent
 silent_fits : (b : Bound) (h : ℕ) (c : Course) (r : Reading) (z : Reading) → h ≡ 1 → CourseFits h (f_heads_of h (First z)) c → ReadingFits b r →
     Fits b (suc h) (ssync_taken true c r)
-unfolding ssync_taken f_heads_of parity_of choice.if◌then◌else◌
+unfolding ssync_taken f_heads_of parity_of choice.when◌then◌else◌
 silent_fits b h c r z e g u = (
   record { heads = omega arith; due = rw e; last = u.s },
   later-course h ((h - 0) / 2) ((suc h - 1) / 2) (ssync_of c r).course (omega arith) (ssync_course_fits h ((h - 0) / 2) c r g),
@@ -213,7 +213,7 @@ silent_fits b h c r z e g u = (
 both_heads_fits : (n : ℕ) (b : Bound) (h : ℕ) (z : Reading) (c : Course) (r : Reading) → h ≡ 1 → ReadingFits b z →
     CourseFits h (f_heads_of h (First z)) c → Marks h r.at →
     Fits b (suc h) (both_heads n z c r)
-unfolding both_heads fsync_taken f_heads_of parity_of choice.if◌then◌else◌
+unfolding both_heads fsync_taken f_heads_of parity_of choice.when◌then◌else◌
 both_heads_fits n b h z c r e u g k =
     let a = (ssync_of c z).course in (
       record { heads = omega arith; due = rw e; last = u.s },
@@ -233,7 +233,7 @@ ssync_taken_fits : (b : Bound) (h : ℕ) (p : Parity) (c : Course) (r : Reading)
     Fits b (suc h) (ssync_taken p.odd c r)
 unfolding ssync_taken f_heads_of parity_of
 ssync_taken_fits b h p c r t s g u =
-    let x : ℕ = if p.odd then 1 else 0 in (
+    let x : ℕ = when p.odd then 1 else 0 in (
       record { heads = omega (arith, s.heads); due = turn_to_f h x (parity_few p) (sym s.due ∙ t); last = u.s },
       later-course h ((h - x) / 2) ((suc h - x) / 2) (ssync_of c r).course (omega arith) (ssync_course_fits h ((h - x) / 2) c r g),
     )
@@ -243,7 +243,7 @@ fsync_taken_fits : (n : ℕ) (b : Bound) (h : ℕ) (p : Parity) (c : Course) (r 
     Fits b (suc h) (fsync_taken n p.odd p.last c r)
 unfolding fsync_taken f_heads_of parity_of
 fsync_taken_fits n b h p c r t s g k =
-    let x : ℕ = if p.odd then 1 else 0 in
+    let x : ℕ = when p.odd then 1 else 0 in
     let l = parity_few p in
     let e = eqb-false (h % 2) x (sym s.due ∙ t) in (
       record { heads = omega (arith, s.heads); due = turn_to_s h x l e; last = s.last },

@@ -1,6 +1,6 @@
 -- What each call does.
 use Rattle.std.specs.Prelude.{ℕ, zero, suc, List, length, ℤ, nat_lt, slice_index, slice_set}
-use Rattle.laws.specs.Choice.{if◌then◌else◌}
+use Rattle.laws.specs.Choice.{when◌then◌else◌}
 use Rattle.fields.specs.Fields.{ones_at}
 use Rattle.sync.specs.declared.SlotSync.{SlotSync}
 use Rattle.sync.specs.Answers.{new_answer, restart_answer, push_answer, push_acc}
@@ -10,10 +10,10 @@ use Rattle.sync_replay.specs.Given.{state_of}
 use Rattle.sync_replay.specs.Told.{answer_of, refused_of, noted_of}
 
 unfoldable pub put_of : List ℕ → ℕ → ℕ → List ℕ
-put_of p n v = if nat_lt n 192 then slice_set p n v else p
+put_of p n v = when nat_lt n 192 then slice_set p n v else p
 
 unfoldable pub set_of : List ℕ → ℕ → ℕ → List ℕ
-set_of acc n v = if nat_lt n (length acc) then slice_set acc n v else acc
+set_of acc n v = when nat_lt n (length acc) then slice_set acc n v else acc
 
 -- the F word from place 0 on, the S word from 48 on
 unfoldable pub words_of : Desk → List ℕ → Desk

@@ -1,6 +1,6 @@
 -- Words and states as the places hold them: 0 to 47 the F word, 48 to 95 the S word, 96 to 143 the window, 144 on the state.
 use Rattle.std.specs.Prelude.{ℕ, ◌+◌, ◌*◌, ◌^◌, List, ℤ, ◌==◌}
-use Rattle.laws.specs.Choice.{if◌then◌else◌}
+use Rattle.laws.specs.Choice.{when◌then◌else◌}
 use Rattle.laws.specs.Ranges.{firsts}
 use Rattle.sync_lock.specs.declared.Tally.{Tally}
 use Rattle.sync_lock.specs.declared.Lock.{Lock}
@@ -30,19 +30,19 @@ tally_of p = record { peak = at32 p 148; place = at16 p 149; sum = wide_at p 150
 
 -- 0 searching, otherwise locked
 unfoldable pub lock_of : List ℕ → Lock
-lock_of p = if at p 152 == 0 then Search (at16 p 153) (at32 p 154) else Locked (at16 p 153) (at32 p 154)
+lock_of p = when at p 152 == 0 then Search (at16 p 153) (at32 p 154) else Locked (at16 p 153) (at32 p 154)
 
 -- 0 no head, 1 head zero held, otherwise the parity is known
 unfoldable pub stage_of : List ℕ → Stage
 stage_of p =
-    if at p 155 == 0
+    when at p 155 == 0
     then Before
-    else if at p 155 == 1
+    else when at p 155 == 1
     then First (record { at = wide_at p 156; both = record { f = corr_of p 158; s = corr_of p 160 } })
     else Known (record { odd = on p 162; due = on p 163; last = corr_of p 164 })
 
 unfoldable pub record_of : List ℕ → Record
-record_of p = if at p 170 == 0 then Never else Last (wide_at p 171) (at32 p 173)
+record_of p = when at p 170 == 0 then Never else Last (wide_at p 171) (at32 p 173)
 
 unfoldable pub course_of : List ℕ → Course
 course_of p =

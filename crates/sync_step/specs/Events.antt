@@ -1,6 +1,6 @@
 -- Events in their places.
 use Rattle.std.specs.Prelude.{Bool, true, false, pos}
-use Rattle.laws.specs.Choice.{if◌then◌else◌}
+use Rattle.laws.specs.Choice.{when◌then◌else◌}
 use Rattle.sync_heads.specs.declared.Headed.{Headed}
 use Rattle.sync_heads.specs.declared.Headed.TheVariants.{Nothing as NoHead, One as OneHead}
 use Rattle.sync_heads.specs.declared.Taken.{Taken}
@@ -29,9 +29,9 @@ heads_of k = record { first = event_of k.first; second = event_of k.second; thir
 -- one more event, in the first place that is free
 unfoldable pub then_of : Events → Event → Events
 then_of es e =
-    if is_nothing es.first
+    when is_nothing es.first
     then record { first = e; second = es.second; third = Nothing }
-    else if is_nothing es.second
+    else when is_nothing es.second
     then record { first = es.first; second = e; third = Nothing }
     else record { first = es.first; second = es.second; third = e }
 

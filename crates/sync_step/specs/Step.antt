@@ -1,6 +1,6 @@
 -- What one symbol makes of a sync.
 use Rattle.std.specs.Prelude.{ℕ, ◌+◌, ◌-◌, ◌%◌, Bool, true, false, eqb, ltb, pos}
-use Rattle.laws.specs.Choice.{if◌then◌else◌}
+use Rattle.laws.specs.Choice.{when◌then◌else◌}
 use Rattle.sync_corr.specs.declared.Both.{Both}
 use Rattle.sync_corr.specs.Correlate.{size_of}
 use Rattle.sync_lock.specs.declared.Lock.{Lock}
@@ -48,7 +48,7 @@ reading_of r b = record { at = r.base + r.t - 23; both = b }
 -- a window at the locked position is a reading
 unfoldable pub taken_of : ℕ → Run → ℕ → Both → Taken
 taken_of n r p b =
-    if locked_at r.lock p
+    when locked_at r.lock p
     then read_of n r.stage r.course (reading_of r b)
     else record { lost = false; stage = r.stage; course = r.course; first = NoHead; second = NoHead }
 
@@ -65,7 +65,7 @@ lost_of at last es = record { run = started_of at last; stores = Zeros; last = n
 unfoldable pub parity_of : Stage → ℕ
 parity_of Before = 0
 parity_of (First z) = 0
-parity_of (Known p) = if p.odd then 1 else 0
+parity_of (Known p) = when p.odd then 1 else 0
 
 unfoldable pub is_locked : Lock → Bool
 is_locked (Search cand count) = false
@@ -111,7 +111,7 @@ unfoldable pub ended_of : ℕ → Run → LastCorr → Events → Step
 ended_of n r last es =
     let v = rule_of n r.lock r.tally in
     let k = with_lock r (lock_after v) in
-    if loses_of v then lost_of (r.base + r.t) r.course.last es else kept_of k last (then_of es (Period (stats_of k)))
+    when loses_of v then lost_of (r.base + r.t) r.course.last es else kept_of k last (then_of es (Period (stats_of k)))
 
 -- ---- a symbol that completes a window, of these correlations, where the accumulator was a; the head comes before the period's end
 unfoldable pub late_of : ℕ → Run → Both → ℕ → Step
@@ -121,9 +121,9 @@ late_of n r b a =
     let k = taken_of n r p b in
     let last : LastCorr = record { both = b; level = level } in
     let next = r.base + r.t + 1 in
-    if k.lost
-    then if eqb p (n - 1) then lost_at_end next k.course.last (heads_of k) else lost_of next k.course.last (heads_of k)
-    else if eqb p (n - 1) then ended_of n (after_of r p level k) last (heads_of k) else kept_of (after_of r p level k) last (heads_of k)
+    when k.lost
+    then when eqb p (n - 1) then lost_at_end next k.course.last (heads_of k) else lost_of next k.course.last (heads_of k)
+    else when eqb p (n - 1) then ended_of n (after_of r p level k) last (heads_of k) else kept_of (after_of r p level k) last (heads_of k)
 
 -- one of the first 23 symbols completes none
 unfoldable pub early_of : Run → Step
@@ -136,4 +136,4 @@ early_of r =
     }
 
 unfoldable pub step_of : ℕ → Run → Both → ℕ → Step
-step_of n r b a = if ltb r.t 23 then early_of r else late_of n r b a
+step_of n r b a = when ltb r.t 23 then early_of r else late_of n r b a

@@ -1,7 +1,7 @@
 -- The first 4 n + 23 symbols lose nothing, whatever they are: `Kept` holds of them. Assumes nothing.
 use Prim.Native.Nat.{◌%◌, ◌*◌, ◌+◌, ◌/◌, ◌<◌, ◌≤◌, suc, zero, ℕ}
 use Rattle.laws.proofs.Tests.{by_test, if_both, never}
-use Rattle.laws.specs.Choice.{if_no, if◌then◌else◌}
+use Rattle.laws.specs.Choice.{if_no, when◌then◌else◌}
 use Rattle.sync_heads.specs.declared.Record.{Record}
 use Rattle.sync_heads.specs.declared.Taken.{Taken}
 use Rattle.sync_history.proofs.Rule.{rule_tells}
@@ -59,5 +59,5 @@ module _ (n base : ℕ) (last : Record) (h : List Push) where
       let t = (taken_at n base last h c).lost in
       let d = ends_at n base last h c in
       let w = period_loses n base last h c in
-      if_no t true (if d then w else false) (ap (λ (k : Taken). k.lost) (taken-other n base last h c (none_reads c q)))
+      if_no t true (when d then w else false) (ap (λ (k : Taken). k.lost) (taken-other n base last h c (none_reads c q)))
       ∙ if_both (λ (x : Bool). x ≡ false) d w false (none-ends c q) refl

@@ -1,7 +1,7 @@
 -- Heads among the events: none without a reading, and one at each reading from the second on. Assumes nothing.
 use Prim.Native.Nat.{◌+◌, ◌-◌, ◌<◌, ◌≤◌, suc, zero, ℕ}
 use Rattle.laws.proofs.Tests.{by_test, if_both, if_either, never}
-use Rattle.laws.specs.Choice.{if_no, if_yes, if◌then◌else◌}
+use Rattle.laws.specs.Choice.{if_no, if_yes, when◌then◌else◌}
 use Rattle.sync_corr.specs.declared.Corr.{Corr}
 use Rattle.sync_heads.specs.Frames.{fsync_course}
 use Rattle.sync_heads.specs.Heads.{both_heads, first_of, fsync_of, fsync_taken, head_of, is_fsync, known_of, read_of, ssync_of, ssync_taken}
@@ -48,7 +48,7 @@ then_none es e k q =
     let a : Events = record { first = e; second = es.second; third = Nothing } in
     let b : Events = record { first = es.first; second = e; third = Nothing } in
     let d : Events = record { first = es.first; second = es.second; third = e } in
-    if_both NoHeads (is_nothing es.first) a (if is_nothing es.second then b else d)
+    if_both NoHeads (is_nothing es.first) a (when is_nothing es.second then b else d)
     (record { first = q; second = k.second; third = refl })
     (if_both NoHeads (is_nothing es.second) b d (record { first = k.first; second = q; third = refl }) (record { first = k.first; second = k.second; third = q }))
 
@@ -69,14 +69,14 @@ then_has at es e (inl p) =
     let a : Events = record { first = e; second = es.second; third = Nothing } in
     let b : Events = record { first = es.first; second = e; third = Nothing } in
     let d : Events = record { first = es.first; second = es.second; third = e } in
-    if_either (Has at) (is_nothing es.first) a (if is_nothing es.second then b else d)
+    if_either (Has at) (is_nothing es.first) a (when is_nothing es.second then b else d)
     (λ t. absurd (never (sym t ∙ head_some at es.first p)))
     (λ t. if_both (Has at) (is_nothing es.second) b d (inl p) (inl p))
 then_has at es e (inr p) =
     let a : Events = record { first = e; second = es.second; third = Nothing } in
     let b : Events = record { first = es.first; second = e; third = Nothing } in
     let d : Events = record { first = es.first; second = es.second; third = e } in
-    if_both (Has at) (is_nothing es.first) a (if is_nothing es.second then b else d)
+    if_both (Has at) (is_nothing es.first) a (when is_nothing es.second then b else d)
     (inr p)
     (if_either (Has at) (is_nothing es.second) b d (λ t. absurd (never (sym t ∙ head_some at es.second p))) (λ t. inr p))
 
@@ -143,9 +143,9 @@ module _ (n base : ℕ) (last : Record) (h : List Push) where
         let zeros = Period (stats_of (started_of (base + c + 24) k.course.last)) in
         let ended = then_of (heads_of k) (Period (stats_at n base last h c)) in
         let q : P lost = more (heads_of k) (Lost (base + c + 24)) refl p in
-        if_both P k.lost (if d then then_of lost zeros else lost) (if d then (if w then lost else ended) else heads_of k)
+        if_both P k.lost (when d then then_of lost zeros else lost) (when d then (when w then lost else ended) else heads_of k)
         (if_both P d (then_of lost zeros) lost (more lost zeros refl q) q)
-        (if_both P d (if w then lost else ended) (heads_of k) (if_both P w lost ended q (more (heads_of k) (Period (stats_at n base last h c)) refl p)) p)
+        (if_both P d (when w then lost else ended) (heads_of k) (if_both P w lost ended q (more (heads_of k) (Period (stats_at n base last h c)) refl p)) p)
 
   pub taken-other : (c : ℕ) → reads_at n base last h c ≡ false →
       taken_at n base last h c ≡ record { lost = false; stage = (heard_to n base last h c).stage; course = (heard_to n base last h c).course; first = NoHead; second = NoHead }

@@ -1,7 +1,7 @@
 -- As long as no push loses, no period that they complete does: the lock is what happened. Assumes nothing.
 use Prim.Native.Nat.{◌%◌, ◌*◌, ◌+◌, ◌-◌, ◌/◌, ◌<◌, ◌≤◌, suc, ℕ}
 use Rattle.laws.proofs.Tests.{by_test, never}
-use Rattle.laws.specs.Choice.{if_no, if_yes, if◌then◌else◌}
+use Rattle.laws.specs.Choice.{if_no, if_yes, when◌then◌else◌}
 use Rattle.sync_heads.specs.declared.Record.{Record}
 use Rattle.sync_history.proofs.Rule.{rule_tells}
 use Rattle.sync_history.specs.Claims.{LockedBy, LosesIn, RuleTells, lock_to}
@@ -70,8 +70,8 @@ module _ (n base : ℕ) (last : Record) (h : List Push) where
       let d = ends_at n base last h c in
       let w = period_loses n base last h c in
       by_test t
-      (λ a. absurd (never (sym (if_yes t true (if d then w else false) a) ∙ e)))
-      (λ a. sym (if_yes d w false b) ∙ sym (if_no t true (if d then w else false) a) ∙ e)
+      (λ a. absurd (never (sym (if_yes t true (when d then w else false) a) ∙ e)))
+      (λ a. sym (if_yes d w false b) ∙ sym (if_no t true (when d then w else false) a) ∙ e)
 
   verdict : (c j : ℕ) → c / n ≡ j → period_loses n base last h c ≡ loses_of (rule_of n (lock_to n (size_at h) j) (figures n (size_at h) j))
   unfolding period_loses lock_at

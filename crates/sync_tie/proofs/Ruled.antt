@@ -2,7 +2,7 @@
 use Prim.Native.Nat.{◌%◌, ◌*◌, ◌+◌, ◌-◌, ◌/◌, ◌<◌, ◌≤◌, suc, zero, ℕ}
 use Rattle.laws.proofs.Tests.{and_both, by_test, if_cong, neither, never}
 use Rattle.laws.specs.Choice as choice
-use Rattle.laws.specs.Choice.{if_no, if_yes, if◌then◌else◌}
+use Rattle.laws.specs.Choice.{if_no, if_yes, when◌then◌else◌}
 use Rattle.sync_corr.specs.declared.Both.{Both}
 use Rattle.sync_heads.specs.declared.Course.{Course}
 use Rattle.sync_heads.specs.declared.Headed.TheVariants.{Nothing as NoHead}
@@ -285,11 +285,11 @@ module _ (n base : ℕ) (last : Record) (h : List Push) where
 
       heads-read : reads_in n base last h k c ≡ true → rule.heads_at n base last h c
           ≡ record { first = event_of (first_told n start last b i); second = event_of (second_told n start last b i); third = Nothing }
-      unfolding rule.heads_at heads_in choice.if◌then◌else◌
+      unfolding rule.heads_at heads_in choice.when◌then◌else◌
       heads-read r = rw (e, r)
 
       heads-other : reads_in n base last h k c ≡ false → rule.heads_at n base last h c ≡ no_events
-      unfolding rule.heads_at heads_in choice.if◌then◌else◌
+      unfolding rule.heads_at heads_in choice.when◌then◌else◌
       heads-other r = rw (e, r)
 
     markers-none : lock_before n base last h c ≡ none → rule.markers_lose_at n base last h c ≡ false
@@ -396,8 +396,8 @@ module _ (n base : ℕ) (last : Record) (h : List Push) where
     unfolding fold.ends_at rule.ends_at
     ends_is = refl
 
-    either_is : (a b d : Bool) → (if a then true else if b then d else false) ≡ (a || (b && d))
-    unfolding choice.if◌then◌else◌
+    either_is : (a b d : Bool) → (when a then true else when b then d else false) ≡ (a || (b && d))
+    unfolding choice.when◌then◌else◌
     either_is true b d = refl
     either_is false true d = refl
     either_is false false d = refl
@@ -458,7 +458,7 @@ module _ (n base : ℕ) (last : Record) (h : List Push) where
   offset-none (Search cand count) e = refl
   offset-none (Locked offset misses) e = absurd (never e)
 
-  parity-is : (start : ℕ) (b : ℕ → Both) (i : ℕ) → parity_of (stage_to n start last b i) ≡ (if ltb i 2 then 0 else parity b)
+  parity-is : (start : ℕ) (b : ℕ → Both) (i : ℕ) → parity_of (stage_to n start last b i) ≡ (when ltb i 2 then 0 else parity b)
   unfolding stage_to parity_of parity
   parity-is start b zero = sym (if_yes (ltb 0 2) 0 (parity b) (lt-ltb 0 2 (omega arith)))
   parity-is start b (suc zero) = sym (if_yes (ltb 1 2) 0 (parity b) (lt-ltb 1 2 (omega arith)))
@@ -548,10 +548,10 @@ module _ (n base : ℕ) (last : Record) (h : List Push) where
       let next = base + c + 24 in
       let lost = then_of hs (Lost next) in
       rw (heads-are c z s, zeros-is next (fold.taken_at n base last h c).course.last, lost-is c z s, ends_is c z s, eighth-is c z s.kept)
-      (if_cong m (if d then then_of lost (Period zeros) else lost) (if d then (if p then lost else then_of hs (Period (fold.stats_at n base last h c))) else hs)
-      (if d then then_of lost (Period zeros) else lost) (if d then (if p then lost else then_of hs (Period (rule.stats_at n base last h c))) else hs)
+      (if_cong m (when d then then_of lost (Period zeros) else lost) (when d then (when p then lost else then_of hs (Period (fold.stats_at n base last h c))) else hs)
+      (when d then then_of lost (Period zeros) else lost) (when d then (when p then lost else then_of hs (Period (rule.stats_at n base last h c))) else hs)
       (λ t. refl)
-      (λ t. if_cong d (if p then lost else then_of hs (Period (fold.stats_at n base last h c))) hs (if p then lost else then_of hs (Period (rule.stats_at n base last h c))) hs
+      (λ t. if_cong d (when p then lost else then_of hs (Period (fold.stats_at n base last h c))) hs (when p then lost else then_of hs (Period (rule.stats_at n base last h c))) hs
       (λ u. if_cong p lost (then_of hs (Period (fold.stats_at n base last h c))) lost (then_of hs (Period (rule.stats_at n base last h c)))
       (λ v. refl)
       (λ v. ap (λ (x : SyncStats). then_of hs (Period x)) (stats-is c z (same_next c z s (none_lost c t v)) (ends_is c z s ∙ u))))

@@ -35,7 +35,7 @@ module _ (n base : ℕ) (last : Record) (h : List Push) where
   Two c = (a : Headed) × (b : Headed) × (heads_at n base last h c ≡ record { first = event_of a; second = event_of b; third = Nothing })
 
   pub heads-two : (c : ℕ) → Two c
-  unfolding heads_at heads_in no_events event_of choice.if◌then◌else◌
+  unfolding heads_at heads_in no_events event_of choice.when◌then◌else◌
   heads-two c =
       by-lock n base last h c
       (λ e. (NoHead, NoHead, rw e refl))
@@ -50,7 +50,7 @@ module _ (n base : ℕ) (last : Record) (h : List Push) where
 
   -- a loss by markers leaves the second place free
   pub lost-alone : (c : ℕ) → markers_lose_at n base last h c ≡ true → (heads_at n base last h c).second ≡ Nothing
-  unfolding markers_lose_at markers_in heads_at heads_in event_of choice.if◌then◌else◌
+  unfolding markers_lose_at markers_in heads_at heads_in event_of choice.when◌then◌else◌
   lost-alone c m =
       by-lock n base last h c
       (λ e. absurd (never (sym m ∙ rw e refl)))

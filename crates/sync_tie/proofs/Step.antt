@@ -1,7 +1,7 @@
 -- What the step makes of a sync that stands as the pushes say: its events, and the sync after it. Assumes nothing.
 use Prim.Native.Nat.{◌%◌, ◌+◌, ◌-◌, ◌/◌, ◌<◌, suc, ℕ}
 use Rattle.laws.proofs.Tests.{by_test, if_ap, never}
-use Rattle.laws.specs.Choice.{if_no, if_yes, if◌then◌else◌}
+use Rattle.laws.specs.Choice.{if_no, if_yes, when◌then◌else◌}
 use Rattle.sync_heads.specs.declared.Record.{Record}
 use Rattle.sync_history.specs.Claims.{lock_to}
 use Rattle.sync_history.specs.History.{figures, figures_to}
@@ -43,9 +43,9 @@ module _ (n base : ℕ) (last : Record) (h : List Push) where
 
   abbrev pub four : ℕ → Tally → Step
   four c y =
-      if (taken_at n base last h c).lost
-      then if ends_at n base last h c then lost_end c else lost_in c
-      else if ends_at n base last h c then end_step c y else in_step c y
+      when (taken_at n base last h c).lost
+      then when ends_at n base last h c then lost_end c else lost_in c
+      else when ends_at n base last h c then end_step c y else in_step c y
 
   abbrev Running : ℕ → Tally → Type 0
   Running c y = 0 < c % n → y ≡ figures_to (running n base last h (c / n)) (c % n)
@@ -68,7 +68,7 @@ module _ (n base : ℕ) (last : Record) (h : List Push) where
   -- ---- the period's end
   ended_is : (c : ℕ) (y : Tally) → 0 < n → Running c y → ends_at n base last h c ≡ true →
       ended_of n (after_at n base last h c y) (last_at n base last h c) (heads_of (taken_at n base last h c))
-      ≡ (if period_loses n base last h c
+      ≡ (when period_loses n base last h c
       then lost_of (base + (c + 23 + 1)) (record_at n base last h c) (heads_of (taken_at n base last h c))
       else kept_of (run_at n base last h (c + 23 + 1) (suc c) (counted_of y (c % n) (level_at n base last h c))) (last_at n base last h c) (then_of (heads_of (taken_at n base last h c)) (Period (stats_at n base last h c))))
   unfolding ended_of period_loses record_at with_lock stats_of stats_at lock_at lock_to
@@ -86,19 +86,19 @@ module _ (n base : ℕ) (last : Record) (h : List Push) where
 
     is-lost-end : Lost? ≡ true → Ends? ≡ true → four c y ≡ lost_end c
     is-lost-end a b =
-        if_yes Lost? (if Ends? then lost_end c else lost_in c) (if Ends? then end_step c y else in_step c y) a ∙ if_yes Ends? (lost_end c) (lost_in c) b
+        if_yes Lost? (when Ends? then lost_end c else lost_in c) (when Ends? then end_step c y else in_step c y) a ∙ if_yes Ends? (lost_end c) (lost_in c) b
 
     is-lost-in : Lost? ≡ true → Ends? ≡ false → four c y ≡ lost_in c
     is-lost-in a b =
-        if_yes Lost? (if Ends? then lost_end c else lost_in c) (if Ends? then end_step c y else in_step c y) a ∙ if_no Ends? (lost_end c) (lost_in c) b
+        if_yes Lost? (when Ends? then lost_end c else lost_in c) (when Ends? then end_step c y else in_step c y) a ∙ if_no Ends? (lost_end c) (lost_in c) b
 
     is-end : Lost? ≡ false → Ends? ≡ true → four c y ≡ end_step c y
     is-end a b =
-        if_no Lost? (if Ends? then lost_end c else lost_in c) (if Ends? then end_step c y else in_step c y) a ∙ if_yes Ends? (end_step c y) (in_step c y) b
+        if_no Lost? (when Ends? then lost_end c else lost_in c) (when Ends? then end_step c y else in_step c y) a ∙ if_yes Ends? (end_step c y) (in_step c y) b
 
     is-in : Lost? ≡ false → Ends? ≡ false → four c y ≡ in_step c y
     is-in a b =
-        if_no Lost? (if Ends? then lost_end c else lost_in c) (if Ends? then end_step c y else in_step c y) a ∙ if_no Ends? (end_step c y) (in_step c y) b
+        if_no Lost? (when Ends? then lost_end c else lost_in c) (when Ends? then end_step c y else in_step c y) a ∙ if_no Ends? (end_step c y) (in_step c y) b
 
   abbrev told_lost : ℕ → Events
   told_lost c = then_of (heads c) (Lost (base + c + 24))
@@ -117,26 +117,26 @@ module _ (n base : ℕ) (last : Record) (h : List Push) where
     told-lost-end : Lost? c no_tally ≡ true → Ends? c no_tally ≡ true → told_at n base last h c ≡ told_lost_end c
     unfolding told_at
     told-lost-end a b =
-        if_yes (Lost? c no_tally) (if Ends? c no_tally then told_lost_end c else told_lost c) (if Ends? c no_tally then (if Loses? then told_lost c else told_period c) else heads c) a
+        if_yes (Lost? c no_tally) (when Ends? c no_tally then told_lost_end c else told_lost c) (when Ends? c no_tally then (when Loses? then told_lost c else told_period c) else heads c) a
         ∙ if_yes (Ends? c no_tally) (told_lost_end c) (told_lost c) b
 
     told-lost-in : Lost? c no_tally ≡ true → Ends? c no_tally ≡ false → told_at n base last h c ≡ told_lost c
     unfolding told_at
     told-lost-in a b =
-        if_yes (Lost? c no_tally) (if Ends? c no_tally then told_lost_end c else told_lost c) (if Ends? c no_tally then (if Loses? then told_lost c else told_period c) else heads c) a
+        if_yes (Lost? c no_tally) (when Ends? c no_tally then told_lost_end c else told_lost c) (when Ends? c no_tally then (when Loses? then told_lost c else told_period c) else heads c) a
         ∙ if_no (Ends? c no_tally) (told_lost_end c) (told_lost c) b
 
-    told-end : Lost? c no_tally ≡ false → Ends? c no_tally ≡ true → told_at n base last h c ≡ (if Loses? then told_lost c else told_period c)
+    told-end : Lost? c no_tally ≡ false → Ends? c no_tally ≡ true → told_at n base last h c ≡ (when Loses? then told_lost c else told_period c)
     unfolding told_at
     told-end a b =
-        if_no (Lost? c no_tally) (if Ends? c no_tally then told_lost_end c else told_lost c) (if Ends? c no_tally then (if Loses? then told_lost c else told_period c) else heads c) a
-        ∙ if_yes (Ends? c no_tally) (if Loses? then told_lost c else told_period c) (heads c) b
+        if_no (Lost? c no_tally) (when Ends? c no_tally then told_lost_end c else told_lost c) (when Ends? c no_tally then (when Loses? then told_lost c else told_period c) else heads c) a
+        ∙ if_yes (Ends? c no_tally) (when Loses? then told_lost c else told_period c) (heads c) b
 
     told_in : Lost? c no_tally ≡ false → Ends? c no_tally ≡ false → told_at n base last h c ≡ heads c
     unfolding told_at
     told_in a b =
-        if_no (Lost? c no_tally) (if Ends? c no_tally then told_lost_end c else told_lost c) (if Ends? c no_tally then (if Loses? then told_lost c else told_period c) else heads c) a
-        ∙ if_no (Ends? c no_tally) (if Loses? then told_lost c else told_period c) (heads c) b
+        if_no (Lost? c no_tally) (when Ends? c no_tally then told_lost_end c else told_lost c) (when Ends? c no_tally then (when Loses? then told_lost c else told_period c) else heads c) a
+        ∙ if_no (Ends? c no_tally) (when Loses? then told_lost c else told_period c) (heads c) b
 
   pub events-are : (c : ℕ) (y : Tally) → 0 < n → Running c y → (four c y).events ≡ told_at n base last h c
   unfolding lost_at_end lost_of record_at kept_of
@@ -159,9 +159,9 @@ module _ (n base : ℕ) (last : Record) (h : List Push) where
   unfolding loses_at
   keeps c e =
       by_test (Lost? c no_tally)
-      (λ a. absurd (never (sym (if_yes (Lost? c no_tally) true (if Ends? c no_tally then Loses? c else false) a) ∙ e)))
+      (λ a. absurd (never (sym (if_yes (Lost? c no_tally) true (when Ends? c no_tally then Loses? c else false) a) ∙ e)))
       (λ a.
-      let f = sym (if_no (Lost? c no_tally) true (if Ends? c no_tally then Loses? c else false) a) ∙ e in
+      let f = sym (if_no (Lost? c no_tally) true (when Ends? c no_tally then Loses? c else false) a) ∙ e in
       (a, λ b. sym (if_yes (Ends? c no_tally) (Loses? c) false b) ∙ f))
 
   after-in : (c : ℕ) (y : Tally) → 0 < n → suc (c % n) < n →
@@ -194,7 +194,7 @@ module _ (n base : ℕ) (last : Record) (h : List Push) where
       (λ b. ((lost_end c).events, is-lost-end c y a b ∙ rw g))
       (λ b. ((lost_in c).events, is-lost-in c y a b ∙ rw g)))
       (λ a.
-      let f = sym (if_no (Lost? c y) true (if Ends? c y then Loses? c else false) a) ∙ e in
+      let f = sym (if_no (Lost? c y) true (when Ends? c y then Loses? c else false) a) ∙ e in
       by_test (Ends? c y)
       (λ b.
       let d = sym (if_yes (Ends? c y) (Loses? c) false b) ∙ f in

@@ -6,7 +6,7 @@ use mathlib.Core.List.{List}
 use mathlib.Core.Path.{◌≡◌}
 use lib.Dec.{eqb, ltb}
 use lib.IntN.{pos}
-use Rattle.laws.specs.Choice.{if◌then◌else◌}
+use Rattle.laws.specs.Choice.{when◌then◌else◌}
 use Rattle.sync_lock.specs.declared.Lock.{Lock}
 use Rattle.sync_lock.specs.Rule.{rule_of, locked_at}
 use Rattle.sync_heads.specs.declared.Record.{Record}
@@ -50,13 +50,13 @@ module _ (n base : ℕ) (last : Record) (h : List Push) where
   heard_to (suc c) =
       let e = heard_to c in
       let k = read_of n e.stage e.course (reading_at c) in
-      if reads_at c then record { stage = k.stage; course = k.course } else e
+      when reads_at c then record { stage = k.stage; course = k.course } else e
 
   -- what position c is taken for: a reading with its heads, or nothing
   unfoldable pub taken_at : ℕ → Taken
   taken_at c =
       let e = heard_to c in
-      if reads_at c
+      when reads_at c
       then read_of n e.stage e.course (reading_at c)
       else record { lost = false; stage = e.stage; course = e.course; first = NoHead; second = NoHead }
 
@@ -70,7 +70,7 @@ module _ (n base : ℕ) (last : Record) (h : List Push) where
 
   -- position c loses: by the second missed marker, or by its period
   unfoldable pub loses_at : ℕ → Bool
-  loses_at c = if (taken_at c).lost then true else if ends_at c then period_loses c else false
+  loses_at c = when (taken_at c).lost then true else when ends_at c then period_loses c else false
 
   -- the statistics of the period that ends with position c
   unfoldable pub stats_at : ℕ → SyncStats
@@ -96,15 +96,15 @@ module _ (n base : ℕ) (last : Record) (h : List Push) where
       let heads = heads_of (taken_at c) in
       let next = base + c + 24 in
       let lost = then_of heads (Lost next) in
-      if (taken_at c).lost
-      then if ends_at c then then_of lost (Period (stats_of (started_of next (taken_at c).course.last))) else lost
-      else if ends_at c
-      then if period_loses c then lost else then_of heads (Period (stats_at c))
+      when (taken_at c).lost
+      then when ends_at c then then_of lost (Period (stats_of (started_of next (taken_at c).course.last))) else lost
+      else when ends_at c
+      then when period_loses c then lost else then_of heads (Period (stats_at c))
       else heads
 
   -- what push m, counted from 0, tells: the first 23 complete no window
   unfoldable pub tells : ℕ → Events
-  tells m = if ltb m 23 then no_events else told_at (m - 23)
+  tells m = when ltb m 23 then no_events else told_at (m - 23)
 
   -- the frame record when position c has lost
   unfoldable pub record_at : ℕ → Record

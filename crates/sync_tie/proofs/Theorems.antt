@@ -1,7 +1,7 @@
 -- The claims of specs/Tie.antt. Assumes nothing.
 use Prim.Native.Nat.{◌+◌, ◌-◌, ◌<◌, ◌≤◌, suc, zero, ℕ}
 use Rattle.laws.proofs.Tests.{by_test}
-use Rattle.laws.specs.Choice.{if◌then◌else◌}
+use Rattle.laws.specs.Choice.{when◌then◌else◌}
 use Rattle.sync_heads.specs.declared.Record.{Record}
 use Rattle.sync_step.specs.Events.{no_events}
 use Rattle.sync_step.specs.declared.Events.{Events}
@@ -45,7 +45,7 @@ module _ (n base : ℕ) (last : Record) (h : List Push) where
   -- ---- so they tell the same
   pub tells-same : (m : ℕ) → 0 < n → Kept n base last h m → fold.tells n base last h m ≡ rule.tells n base last h m
   unfolding fold.tells rule.tells
-  tells-same m z k = ap (λ (es : Events). if ltb m 23 then no_events else es) (ruled-at m z k).told
+  tells-same m z k = ap (λ (es : Events). when ltb m 23 then no_events else es) (ruled-at m z k).told
 
   -- the frame record after m pushes
   pub record-now : (m : ℕ) → 0 < n → m ≤ length h → Kept n base last h m → (pushes n (begun n base last) h m).sync.run.course.last ≡ rule.record_before n base last h (m - 23)

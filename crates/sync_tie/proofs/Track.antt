@@ -3,7 +3,7 @@ use Rattle.laws.specs.Choice as choice
 use Rattle.sync_heads.specs.declared.Headed.TheVariants.{Nothing as NoHead}
 use Prim.Native.Nat.{◌%◌, ◌+◌, ◌-◌, ◌/◌, ◌<◌, suc, ℕ}
 use Rattle.laws.proofs.Tests.{by_test}
-use Rattle.laws.specs.Choice.{if_no, if_yes, if◌then◌else◌}
+use Rattle.laws.specs.Choice.{if_no, if_yes, when◌then◌else◌}
 use Rattle.sync.specs.Sync.{symbol_of, window_after}
 use Rattle.sync_corr.specs.Correlate.{both_of, size_of}
 use Rattle.sync_corr.specs.declared.Both.{Both}
@@ -34,12 +34,12 @@ use native.Mathlib.Omega.{arith}
 
 -- what the readings come to with one position more is what it was taken for
 heard_go : (t : Bool) (k : Taken) (e : Heard) →
-    (if t then record { stage = k.stage; course = k.course } else e)
+    (when t then record { stage = k.stage; course = k.course } else e)
     ≡ record {
-      stage = (if t then k else record { lost = false; stage = e.stage; course = e.course; first = NoHead; second = NoHead }).stage;
-      course = (if t then k else record { lost = false; stage = e.stage; course = e.course; first = NoHead; second = NoHead }).course;
+      stage = (when t then k else record { lost = false; stage = e.stage; course = e.course; first = NoHead; second = NoHead }).stage;
+      course = (when t then k else record { lost = false; stage = e.stage; course = e.course; first = NoHead; second = NoHead }).course;
     }
-unfolding choice.if◌then◌else◌
+unfolding choice.when◌then◌else◌
 heard_go true k e = refl
 heard_go false k e = refl
 
@@ -49,7 +49,7 @@ late_eq n p q s = rw (p, q, s)
 module _ (n base : ℕ) (last : Record) (h : List Push) where
   -- the accumulators: of those places that the running period has passed, one period more
   unfoldable pub periods_at : ℕ → ℕ → ℕ
-  periods_at c i = if ltb i (c % n) then suc (c / n) else c / n
+  periods_at c i = when ltb i (c % n) then suc (c / n) else c / n
 
   abbrev pub level_at : ℕ → ℕ
   level_at c = acc_after n (size_at h) 0 (c % n) (suc (c / n))
@@ -151,11 +151,11 @@ module _ (n base : ℕ) (last : Record) (h : List Push) where
   -- its four ends
   pub late_is : (c : ℕ) (y : Tally) →
       late_of n (run_at (c + 23) c y) (both_at h c) (acc_after n (size_at h) 0 (c % n) (c / n))
-      ≡ (if (taken_at n base last h c).lost
-      then if ends_at n base last h c
+      ≡ (when (taken_at n base last h c).lost
+      then when ends_at n base last h c
       then lost_at_end (base + (c + 23) + 1) (record_at n base last h c) (heads_of (taken_at n base last h c))
       else lost_of (base + (c + 23) + 1) (record_at n base last h c) (heads_of (taken_at n base last h c))
-      else if ends_at n base last h c
+      else when ends_at n base last h c
       then ended_of n (after_at c y) (last_at c) (heads_of (taken_at n base last h c))
       else kept_of (after_at c y) (last_at c) (heads_of (taken_at n base last h c)))
   unfolding late_of after_of ends_at record_at

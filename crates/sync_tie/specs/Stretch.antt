@@ -2,7 +2,7 @@
 -- zero. n is the period. No state stands here: lock, readings, heads, periods, losses and records are functions of the pushes.
 use Rattle.std.specs.Prelude.{ℕ, suc, ◌+◌, ◌-◌, ◌*◌, ◌/◌, ◌%◌, Bool, true, false, ◌&&◌, ◌||◌, List, ◌≡◌, eqb, ltb}
 use Rattle.std.proofs.Math.Option.{Option, none, some}
-use Rattle.laws.specs.Choice.{if◌then◌else◌}
+use Rattle.laws.specs.Choice.{when◌then◌else◌}
 use Rattle.sync_corr.specs.declared.Both.{Both}
 use Rattle.sync_heads.specs.declared.Record.{Record}
 use Rattle.sync_step.specs.declared.SyncStats.{SyncStats}
@@ -42,7 +42,7 @@ module _ (n base : ℕ) (last : Record) (h : List Push) where
   -- how many readings the first c positions hold: one in each whole period after the lock's, and one in the running period once the place is behind. So
   -- a reading's own number, counted from 0
   unfoldable pub count_in : ℕ → ℕ → ℕ
-  count_in k c = c / n - suc k + (if ltb (place_in k) (c % n) then 1 else 0)
+  count_in k c = c / n - suc k + (when ltb (place_in k) (c % n) then 1 else 0)
 
   -- reading i, the correlations of its window, and the position of reading 0
   unfoldable pub both_in : ℕ → ℕ → Both
@@ -62,7 +62,7 @@ module _ (n base : ℕ) (last : Record) (h : List Push) where
   heads_in none c = no_events
   heads_in (some k) c =
       let i = count_in k c in
-      if reads_in k c
+      when reads_in k c
       then record { first = event_of (first_told n (start_in k) last (both_in k) i); second = event_of (second_told n (start_in k) last (both_in k) i); third = Nothing }
       else no_events
 
@@ -90,7 +90,7 @@ module _ (n base : ℕ) (last : Record) (h : List Push) where
         sum = y.sum;
         locked = true;
         offset = place_in k;
-        ssync_parity = (if ltb i 2 then 0 else parity (both_in k));
+        ssync_parity = (when ltb i 2 then 0 else parity (both_in k));
         stray_markers = capped (strays_to (both_in k) i);
         missed_markers = capped (misses_to (both_in k) i);
       }
@@ -115,7 +115,7 @@ module _ (n base : ℕ) (last : Record) (h : List Push) where
   record_before c = record_in (lock_before c) c
 
   unfoldable pub record_at : ℕ → Record
-  record_at c = if markers_lose_at c then record_before c else record_before (suc c)
+  record_at c = when markers_lose_at c then record_before c else record_before (suc c)
 
   -- ---- what the symbol that completes position c tells: its heads, then a loss with the restart position, the next symbol's, or the period's end with
   -- its figures and the lock after it. A marker loss on a period's last position is followed by a period of zeros.
@@ -129,12 +129,12 @@ module _ (n base : ℕ) (last : Record) (h : List Push) where
   told_at c =
       let heads = heads_at c in
       let lost = then_of heads (Lost (base + c + 24)) in
-      if markers_lose_at c
-      then if ends_at c then then_of lost (Period zeros) else lost
-      else if ends_at c
-      then if eighth_ends c then lost else then_of heads (Period (stats_at c))
+      when markers_lose_at c
+      then when ends_at c then then_of lost (Period zeros) else lost
+      else when ends_at c
+      then when eighth_ends c then lost else then_of heads (Period (stats_at c))
       else heads
 
   -- what push m, counted from 0, tells: the first 23 complete no window
   unfoldable pub tells : ℕ → Events
-  tells m = if ltb m 23 then no_events else told_at (m - 23)
+  tells m = when ltb m 23 then no_events else told_at (m - 23)

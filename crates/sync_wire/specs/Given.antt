@@ -1,6 +1,6 @@
 -- A slot sync as the numbers of a call hold it.
 use Rattle.std.specs.Prelude.{ℕ, ◌+◌, ◌*◌, List, eqb, ℤ}
-use Rattle.laws.specs.Choice.{if◌then◌else◌}
+use Rattle.laws.specs.Choice.{when◌then◌else◌}
 use Rattle.laws.specs.Ranges.{firsts}
 use Rattle.sync_lock.specs.declared.Tally.{Tally}
 use Rattle.sync_lock.specs.declared.Lock.{Lock}
@@ -19,7 +19,7 @@ unfoldable pub tally_of : List ℕ → Tally
 tally_of p = record { peak = at32 p 3; place = at16 p 4; sum = at p 5 }
 
 unfoldable pub lock_of : List ℕ → Lock
-lock_of p = if eqb (at p 6) 0 then Search (at16 p 7) (at32 p 8) else Locked (at16 p 7) (at32 p 8)
+lock_of p = when eqb (at p 6) 0 then Search (at16 p 7) (at32 p 8) else Locked (at16 p 7) (at32 p 8)
 
 unfoldable pub run_put : Run → List ℕ → Run
 run_put r p = record { base = at p 1; t = at p 2; tally = tally_of p; lock = lock_of p; stage = r.stage; course = r.course }
@@ -28,14 +28,14 @@ run_put r p = record { base = at p 1; t = at p 2; tally = tally_of p; lock = loc
 -- missed in a row, strayed and missed
 unfoldable pub stage_of : List ℕ → Stage
 stage_of p =
-    if eqb (at p 1) 0
+    when eqb (at p 1) 0
     then Before
-    else if eqb (at p 1) 1
+    else when eqb (at p 1) 1
     then First (record { at = at p 2; both = record { f = corr_of p 3; s = corr_of p 5 } })
     else Known (record { odd = on p 2; due = on p 3; last = corr_of p 4 })
 
 unfoldable pub record_of : List ℕ → Record
-record_of p = if eqb (at p 11) 0 then Never else Last (at p 12) (at32 p 13)
+record_of p = when eqb (at p 11) 0 then Never else Last (at p 12) (at32 p 13)
 
 unfoldable pub course_of : List ℕ → Course
 course_of p =

@@ -1,6 +1,6 @@
 -- Numbers as bytes, least byte first.
 use Rattle.std.specs.Prelude.{ℕ, ◌+◌, ◌-◌, ◌*◌, ◌/◌, ◌%◌, ◌^◌, List, [], ◌∷◌, ltb, ℤ, pos, negsuc, get_or}
-use Rattle.laws.specs.Choice.{if◌then◌else◌}
+use Rattle.laws.specs.Choice.{when◌then◌else◌}
 use Rattle.laws.specs.Ranges.{firsts}
 
 -- the number of four bytes
@@ -22,7 +22,7 @@ numbers_of s = firsts (number_at s) 24
 
 -- the signed number of u's bits, where those of half and more are negative: -1 has all bits set
 unfoldable pub signed : ℕ → ℕ → ℤ
-signed half u = if ltb u half then pos u else negsuc (2 * half - 1 - u)
+signed half u = when ltb u half then pos u else negsuc (2 * half - 1 - u)
 
 -- the 64 bits of a signed number
 unfoldable pub bits : ℤ → ℕ

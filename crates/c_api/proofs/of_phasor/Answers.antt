@@ -9,10 +9,10 @@ use Rattle.c_api.proofs.of_phasor.Goals as goal
 pub returns-in-At : goal.returns-in-At
 unfolding phasor_numbers
 returns-in-At c =
-    let a = c.a-1 in
-    let f : SFits w64 a.given.0.0.cos = search rules in
-    let g : SFits w64 a.given.0.0.sin = search rules in
-    rw (to_z-of_z f, to_z-of_z g, a.given.1)
+    let p = c.in-At.p in
+    let f : SFits w64 p.cos = search rules in
+    let g : SFits w64 p.sin = search rules in
+    rw (to_z-of_z f, to_z-of_z g, c.in-At.is)
 
 pub returns-in-Refused : goal.returns-in-Refused
 unfolding phasor_numbers

@@ -9,10 +9,10 @@ use Rattle.c_api.proofs.of_scaled.Goals as goal
 pub returns-in-By : goal.returns-in-By
 unfolding part_numbers
 returns-in-By c =
-    let a = c.a-1 in
-    let f : SFits w64 a.given.0.0.re = search rules in
-    let g : SFits w64 a.given.0.0.im = search rules in
-    rw (to_z-of_z f, to_z-of_z g, a.given.1)
+    let p = c.in-By.p in
+    let f : SFits w64 p.re = search rules in
+    let g : SFits w64 p.im = search rules in
+    rw (to_z-of_z f, to_z-of_z g, c.in-By.is)
 
 pub returns-in-Refused : goal.returns-in-Refused
 unfolding part_numbers

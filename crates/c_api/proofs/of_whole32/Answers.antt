@@ -4,20 +4,14 @@ use mir.Facts.{to_z-of_z, sfits_widen}
 use mir.Syntax.{w64, w32}
 use mir.Val.{SFits}
 use Rattle.c_api.specs.Api.{number32}
-use Rattle.c_api.proofs.of_whole32.Lts as lts
-use Rattle.c_api.proofs.of_whole32.Reads as reads
 use Rattle.c_api.proofs.of_whole32.Goals as goal
-
--- the value fits its own width
-narrow : (c : (lts.After-known_told reads.Pre reads.Post)) → SFits w32 c.in-Value.v
-narrow c = search rules
-
-pub overflow_cast-result : goal.overflow_cast-result
-overflow_cast-result c = rw (to_z-of_z (narrow c.before)) (sfits_widen {w = w32} tt (narrow c.before))
 
 pub returns-in-Value : goal.returns-in-Value
 unfolding number32
-returns-in-Value c = rw (to_z-of_z (narrow c.before), to_z-of_z (sfits_widen {w = w32} {w' = w64} tt (narrow c.before)), c.in-Value.is)
+returns-in-Value c =
+    let f : SFits w32 c.in-Value.v = search rules in
+    let g : SFits w64 c.in-Value.v = sfits_widen {w = w32} {w' = w64} tt f in
+    rw (to_z-of_z f, to_z-of_z g, c.in-Value.is)
 
 pub returns-in-Refused : goal.returns-in-Refused
 unfolding number32

@@ -28,7 +28,7 @@ accepted-requires c =
     rw p (w.long, w.fits, refl, ap (λ (l : Lengths). l.symbols) e)
 
 pub shape_of-table : goal.shape_of-table
-shape_of-table c = c.table.auto.1.0
+shape_of-table c = c.table.auto.out
 
 pub returns-then-n-eq0 : goal.returns-then-n-eq0
 unfolding header_answer header_table

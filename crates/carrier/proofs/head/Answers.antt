@@ -1,6 +1,5 @@
 -- `carrier::head` meets its contract: what is accepted is in range. Assumes nothing.
 use mathlib.Core.Path.{sym, ◌∙◌}
-use borrow.Author.Rules.{rules}
 use Rattle.laws.specs.Choice.{cases}
 use Rattle.carrier.specs.Answers.{head_answer}
 use Rattle.carrier.proofs.Laws.{nco_ok, head-accepts}

@@ -1,5 +1,4 @@
 -- `carrier::new` meets its contract. Assumes nothing.
-use borrow.Author.Rules.{rules}
 use mir.Facts.{to_z-of_z}
 use Rattle.carrier.proofs.new.Goals as goal
 

@@ -1,6 +1,5 @@
 -- `carrier::restart` meets its contract: one case at each return. Assumes nothing.
 use Prim.Native.Nat.{◌<◌, ◌^◌}
-use borrow.Author.Rules.{rules}
 use lib.Signed.{mag}
 use mir.Syntax.{w32}
 use Rattle.laws.proofs.Size.{back}

@@ -2,7 +2,6 @@
 use mathlib.Core.Path.{sym, ◌∙◌}
 use mir.Facts.{to_z-of_z}
 use mir.Syntax.{w16}
-use borrow.Author.Rules.{rules}
 use Rattle.laws.proofs.Size.{num, at}
 use Rattle.laws.specs.Choice.{cases}
 use Rattle.carrier.specs.Answers.{rotate_answer}

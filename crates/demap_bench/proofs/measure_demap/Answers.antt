@@ -1,5 +1,4 @@
 -- `demap_bench::measure_demap` meets its contract. Assumes nothing.
-use borrow.Author.Rules.{rules}
 use mir.Facts.{to_z-of_z}
 use Rattle.demap_bench.proofs.measure_demap.Goals as goal
 

@@ -1,12 +1,5 @@
-use mathlib.Core.Bool.{◌&&◌}
-use mathlib.Core.Path.{ap₂, ◌≡◌, refl, ◌∙◌}
+use mathlib.Core.Path.{◌≡◌}
 use Prim.Native.Nat.{◌-◌, ◌≤◌}
-use native.Mathlib.Numerals.{add-one}
-use native.Mathlib.Omega.{arith}
-use borrow.Author.Rules.{rules}
-use mir.Syntax.{w16}
-use Rattle.eq_train.specs.Train.{nth}
-use Rattle.laws.proofs.Size.{back}
 use Rattle.eq_bench.specs.Blocks.{in_bytes}
 use Rattle.eq_bench.proofs.all_in_byte.Given as goal
 

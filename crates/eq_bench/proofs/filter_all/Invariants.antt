@@ -1,14 +1,6 @@
-use mathlib.Core.List.{List}
-use mathlib.Core.Path.{ap, ◌≡◌, refl, ◌∙◌}
-use Prim.Native.Nat.{◌<◌, ◌^◌, ◌+◌, ◌-◌, ◌*◌, ◌/◌, ◌≤◌}
-use native.Mathlib.Omega.{arith}
-use borrow.Author.Rules.{rules}
-use lib.IntN.{ℤ, pos}
-use lib.ListN.{get_or, length, set, length-set}
-use lib.Signed.{mag}
-use mir.Syntax.{w16}
-use Rattle.laws.proofs.Size.{back}
-use Rattle.eq_bench.proofs.Laws.{filter_more, line_long}
+use mathlib.Core.Path.{◌≡◌}
+use Prim.Native.Nat.{◌-◌, ◌≤◌}
+use lib.ListN.{length}
 use Rattle.eq_bench.specs.Blocks.{filtered, filtered_by}
 use Rattle.eq_bench.proofs.filter_all.Given as goal
 

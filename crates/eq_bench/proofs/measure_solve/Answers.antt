@@ -1,5 +1,4 @@
 -- `eq_bench::measure_solve` meets its contract. Assumes nothing.
-use borrow.Author.Rules.{rules}
 use Rattle.eq_bench.specs.Blocks.{solved_of}
 use Rattle.eq_bench.proofs.measure_solve.Goals as goal
 

@@ -1,6 +1,5 @@
 -- `eq_bench::measure_train` meets its contract. Assumes nothing.
 use mathlib.Core.Path.{sym, ◌∙◌, ap}
-use borrow.Author.Rules.{rules}
 use borrow.Author.Tests.{lt-leb, le-leb}
 use mir.Facts.{to_z-of_z}
 use Rattle.laws.specs.Choice.{if_yes, if_no}

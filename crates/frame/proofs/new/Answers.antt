@@ -1,5 +1,4 @@
 -- `frame::new` meets its contract. Assumes nothing.
-use borrow.Author.Rules.{rules}
 use Rattle.frame.specs.Align.{new_back}
 use Rattle.frame.proofs.new.Goals as goal
 

@@ -1,6 +1,5 @@
 -- `frame::push` meets its contract. Assumes nothing.
 use mathlib.Core.Path.{sym, ◌∙◌}
-use borrow.Author.Rules.{rules}
 use Rattle.laws.specs.Choice.{cases}
 use Rattle.frame.specs.Answers.{push_answer}
 use Rattle.frame.proofs.Laws.{push_ok}

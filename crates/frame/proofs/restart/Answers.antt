@@ -1,5 +1,4 @@
 -- `frame::restart` meets its contract. Assumes nothing.
-use borrow.Author.Rules.{rules}
 use Rattle.laws.specs.Choice.{cases}
 use Rattle.frame.specs.Answers.{restart_answer}
 use Rattle.frame.proofs.restart.Goals as goal

@@ -1,6 +1,5 @@
 -- `frame_map::part` meets its contract. Assumes nothing.
 use mathlib.Core.Path.{sym}
-use borrow.Author.Rules.{rules}
 use Rattle.frame_map.proofs.Laws.{part_past}
 use Rattle.frame_map.proofs.part.Goals as goal
 

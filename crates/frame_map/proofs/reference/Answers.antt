@@ -1,6 +1,5 @@
 -- `frame_map::reference` meets its contract. Assumes nothing.
 use mathlib.Core.Path.{sym, ◌∙◌}
-use borrow.Author.Rules.{rules}
 use Rattle.laws.proofs.Tests.{and_both}
 use Rattle.laws.specs.Choice.{cases}
 use Rattle.frame_map.specs.Reference.{reference_answer}

@@ -17,7 +17,7 @@ pub returns-then-room : goal.returns-then-room
 returns-then-room c =
     let a = c.args in
     let t = c.told in
-    was_printed a.out.now a.at (event_line a.e) t.new.0 t.result _ (room_yes a.at (length a.out.now) (sym c.room.ensures ∙ c.if-room.true)) t.ensures
+    was_printed a.out.now a.at (event_line a.e) t.new.out t.result _ (room_yes a.at (length a.out.now) (sym c.room.ensures ∙ c.if-room.true)) t.ensures
 
 pub returns-else-room : goal.returns-else-room
 returns-else-room c = let a = c.args in was_refused a.out.now a.at (event_line a.e) _ 1 (room_no a.at (length a.out.now) (sym c.room.ensures ∙ c.if-room.false)) refl

@@ -24,7 +24,7 @@ returns-else-values-gt5 c =
     let a = c.args in
     let w = c.written in
     let m = soft_yes (length a.values.now) a.place (length a.out.now) (sym c.room.ensures ∙ c.if-room.true) c.if-values-gt5.false in
-    was_printed a.out.now a.place (soft_line a.at a.j a.values.now) w.new.0 w.result _ m w.ensures
+    was_printed a.out.now a.place (soft_line a.at a.j a.values.now) w.new.out w.result _ m w.ensures
 
 pub returns-else-room : goal.returns-else-room
 returns-else-room c =

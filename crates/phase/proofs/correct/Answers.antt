@@ -1,6 +1,5 @@
 -- `phase::correct` meets its contract. Assumes nothing.
 use mathlib.Core.Path.{sym, ◌∙◌}
-use borrow.Author.Rules.{rules}
 use lib.ListN.{length}
 use Rattle.laws.specs.Choice.{cases}
 use Rattle.phase.proofs.Laws.{correct_taken}

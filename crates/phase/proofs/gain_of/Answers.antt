@@ -1,6 +1,5 @@
 -- `phase::gain_of` meets its contract. Assumes nothing.
 use mathlib.Core.Path.{sym, ◌∙◌}
-use borrow.Author.Rules.{rules}
 use mir.Facts.{to_z-of_z}
 use Rattle.fx.proofs.Laws.{not_wide}
 use Rattle.laws.specs.Choice.{cases}

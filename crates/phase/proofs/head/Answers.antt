@@ -1,6 +1,5 @@
 -- `phase::head` meets its contract. Assumes nothing.
 use mathlib.Core.Path.{sym, ◌∙◌}
-use borrow.Author.Rules.{rules}
 use Rattle.laws.specs.Choice.{cases}
 use Rattle.phase.proofs.Laws.{head_taken, phase_ok}
 use Rattle.phase.specs.Answers.{head_answer}

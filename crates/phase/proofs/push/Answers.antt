@@ -1,6 +1,5 @@
 -- `phase::push` meets its contract. Assumes nothing.
 use mathlib.Core.Path.{sym, ◌∙◌}
-use borrow.Author.Rules.{rules}
 use lib.ListN.{length}
 use mir.Facts.{to_z-of_z}
 use Rattle.laws.specs.Choice.{cases}

@@ -1,5 +1,4 @@
 -- `phase::restart` meets its contract. Assumes nothing.
-use borrow.Author.Rules.{rules}
 use Rattle.laws.specs.Choice.{cases}
 use Rattle.phase.specs.Answers.{restart_answer}
 use Rattle.phase.proofs.restart.Goals as goal

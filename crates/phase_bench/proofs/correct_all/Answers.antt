@@ -1,17 +1,13 @@
 -- `phase_bench::correct_all` meets its contract. Assumes nothing.
 use mathlib.Core.Path.{◌≡◌, refl, ◌∙◌}
-use Prim.Native.Nat.{◌<◌, ◌^◌, ◌+◌, ◌-◌, ◌*◌, ◌≤◌}
+use Prim.Native.Nat.{◌<◌, ◌^◌, ◌+◌, ◌*◌}
 use native.Mathlib.Omega.{arith}
-use borrow.Author.Rules.{rules}
-use lib.ListN.{length, set, length-set}
+use lib.ListN.{set, length-set}
 use lib.Signed.{mag}
 use mir.Syntax.{w16, w64}
 use Rattle.laws.proofs.Size.{back}
 use Rattle.phase_bench.proofs.Laws.{correct_more}
 use Rattle.phase_bench.specs.Slots.{places, corrected_all}
-use Rattle.phase_bench.proofs.correct_all.Reads as reads
-use Rattle.phase_bench.proofs.correct_all.Lts as lts
-use Rattle.phase.proofs.ranged.corrected.Reads as corrected-reads
 use Rattle.phase_bench.proofs.correct_all.Goals as goal
 
 -- src/lib.rt:66:5

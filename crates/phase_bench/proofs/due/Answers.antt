@@ -1,6 +1,5 @@
 -- `phase_bench::due` meets its contract. Assumes nothing.
 use mathlib.Core.Path.{refl}
-use borrow.Author.Rules.{rules}
 use mir.Facts.{to_z-of_z}
 use Rattle.phase_bench.proofs.Laws.{due_ok, at_zero}
 use Rattle.phase_bench.specs.Slots.{head_of, due_between}

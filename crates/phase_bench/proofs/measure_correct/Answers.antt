@@ -1,6 +1,5 @@
 -- `phase_bench::measure_correct` meets its contract. Assumes nothing.
 use mathlib.Core.Path.{refl, sym, subst, ◌∙◌}
-use borrow.Author.Rules.{rules}
 use mir.Facts.{to_z-of_z}
 use Rattle.laws.specs.Choice.{if_yes, if_no}
 use Rattle.phase_bench.proofs.Laws.{lengths}

@@ -1,6 +1,5 @@
 -- `phase_bench::measure_rotate` meets its contract. Assumes nothing.
 use mathlib.Core.Path.{◌∙◌, ap, sym}
-use borrow.Author.Rules.{rules}
 use borrow.Author.Tests.{eqb-true, leb-true}
 use lib.Dec.{eqb, leb}
 use lib.ListN.{length}
@@ -8,10 +7,6 @@ use mir.Facts.{to_z-of_z}
 use Rattle.laws.proofs.Tests.{and_both}
 use Rattle.laws.specs.Choice.{if_yes, if_no}
 use Rattle.phase_bench.specs.Blocks.{Turned, rotated_phase, rotated_out}
-use Rattle.phase_bench.proofs.measure_rotate.Reads as reads
-use Rattle.phase_bench.proofs.measure_rotate.Lts as lts
-use Rattle.carrier.proofs.plain.started.Reads as started-reads
-use Rattle.phase_bench.proofs.rotate_all.Reads as rotate-all-reads
 use Rattle.phase_bench.proofs.measure_rotate.Goals as goal
 
 -- src/lib.rt:36:13

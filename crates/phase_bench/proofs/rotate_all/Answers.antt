@@ -1,8 +1,7 @@
 -- `phase_bench::rotate_all` meets its contract. Assumes nothing.
 use mathlib.Core.Path.{◌∙◌, ◌≡◌, refl}
-use Prim.Native.Nat.{◌+◌, ◌*◌, ◌-◌, ◌/◌, ◌≤◌}
+use Prim.Native.Nat.{◌+◌, ◌*◌, ◌/◌}
 use native.Mathlib.Omega.{arith}
-use borrow.Author.Rules.{rules}
 use lib.IntN.{pos}
 use lib.ListN.{get_or, set, length-set, length}
 use mir.Facts.{to_z-of_z}
@@ -10,10 +9,6 @@ use mir.Syntax.{w8, w16}
 use Rattle.laws.proofs.Size.{back, sfits_abs}
 use Rattle.phase_bench.proofs.Laws.{rotate_more}
 use Rattle.phase_bench.specs.Blocks.{turned, rotated_all}
-use Rattle.phase_bench.proofs.rotate_all.Reads as reads
-use Rattle.phase_bench.proofs.rotate_all.Lts as lts
-use Rattle.carrier.proofs.plain.advanced.Reads as advanced-reads
-use Rattle.carrier.proofs.ranged.rotated.Reads as rotated-reads
 use Rattle.phase_bench.proofs.rotate_all.Goals as goal
 
 -- src/lib.rt:16:5

@@ -6,24 +6,25 @@ use borrow.Author.Rules.{rules}
 use lib.ListN.{length}
 use mathlib.Core.Path.{◌∙◌, sym}
 use mir.Facts.{to_z-of_z}
+use mir.Syntax.{w64}
 use Rattle.receiver.proofs.load_points.Goals as goal
 
 pub loaded_points-requires : goal.loaded_points-requires
 loaded_points-requires c =
     let a = c.args in
-    let n = rw (to_z-of_z c.ranges.k) at c.load_points-n.ensures in
+    let n = rw (to_z-of_z {w = w64} c.ranges.k) at c.load_points-n.ensures in
     let t = points_taken a.r a.bits (length a.points.now) a.k (sym n ∙ c.if-n-eq0.true) in
-    (t.0, rw (to_z-of_z c.ranges.k) t.1, rw (to_z-of_z c.ranges.k) t.2)
+    (t.0, rw (to_z-of_z {w = w64} c.ranges.k) t.1, rw (to_z-of_z {w = w64} c.ranges.k) t.2)
 
 pub returns-then-n-eq0 : goal.returns-then-n-eq0
 unfolding points_answer
 returns-then-n-eq0 c =
-    let n = rw (to_z-of_z c.ranges.k) at c.load_points-n.ensures in
-    let p = rw (to_z-of_z c.ranges.k) at c.loaded_points.ensures in
+    let n = rw (to_z-of_z {w = w64} c.ranges.k) at c.load_points-n.ensures in
+    let p = rw (to_z-of_z {w = w64} c.ranges.k) at c.loaded_points.ensures in
     rw (c.with_points.ensures, p, ← n) (search cases)
 
 pub returns-else-n-eq0 : goal.returns-else-n-eq0
 unfolding points_answer
 returns-else-n-eq0 c =
-    let n = rw (to_z-of_z c.ranges.k) at c.load_points-n.ensures in
+    let n = rw (to_z-of_z {w = w64} c.ranges.k) at c.load_points-n.ensures in
     rw (← n) (search cases)

@@ -4,16 +4,17 @@ use Rattle.laws.specs.Choice.{cases}
 use borrow.Author.Rules.{rules}
 use mathlib.Core.Path.{◌∙◌}
 use mir.Facts.{to_z-of_z}
+use mir.Syntax.{w32}
 use Rattle.receiver.proofs.new.Goals as goal
 
 pub returns-then-acc-eq9296 : goal.returns-then-acc-eq9296
 unfolding new_answer new_acc
 returns-then-acc-eq9296 c =
-    let k = rw (to_z-of_z c.ranges.step) at c.new_kept.ensures in
+    let k = rw (to_z-of_z {w = w32} c.ranges.step) at c.new_kept.ensures in
     (rw (c.started-r.ensures, k) (search cases), c.clear.ensures ∙ search cases)
 
 pub returns-else-acc-eq9296 : goal.returns-else-acc-eq9296
 unfolding new_answer new_acc
 returns-else-acc-eq9296 c =
-    let k = rw (to_z-of_z c.ranges.step) at c.new_kept.ensures in
+    let k = rw (to_z-of_z {w = w32} c.ranges.step) at c.new_kept.ensures in
     (rw (c.started-r.ensures, k) (search cases), search cases)

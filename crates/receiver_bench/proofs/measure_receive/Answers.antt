@@ -3,6 +3,7 @@ use Prim.Native.Nat.{ℕ, ◌+◌, ◌-◌, ◌*◌, ◌≤◌}
 use mathlib.Core.Path.{◌≡◌, refl, sym, ap, ◌∙◌}
 use native.Mathlib.Omega.{arith}
 use mir.Facts.{to_z-of_z}
+use mir.Syntax.{w64}
 use lib.ListN.{length}
 use lib.IntN.{ℤ, pos}
 use Rattle.receiver.specs.Answers.{new_acc, new_answer, points_answer}
@@ -37,13 +38,13 @@ loop-j-preserved c =
       omega (arith, c.loop-j-test.true),
       g.ensures.2,
       feed_more b h.j _ (flow h.r h.taken h.refusal (lent_of h.acc h.store h.soft)) g.result _ h.invariant.2 g.ensures.0 g.ensures.1,
-      g.auto.1.1.1.1.1.0 ∙ h.invariant.3,
-      g.auto.1.1.1.1.1.1.0 ∙ h.invariant.4,
-      g.auto.1.1.1.1.1.1.1.0 ∙ h.invariant.5,
+      g.auto.acc ∙ h.invariant.3,
+      g.auto.store ∙ h.invariant.4,
+      g.auto.soft ∙ h.invariant.5,
     )
 
 pub shape_of-acc : goal.shape_of-acc
-shape_of-acc c = c.loop-j.invariant.3 ∙ c.new-a.auto.1.1.0
+shape_of-acc c = c.loop-j.invariant.3 ∙ c.new-a.auto.acc
 
 pub shape_of-store : goal.shape_of-store
 shape_of-store c = c.loop-j.invariant.4
@@ -60,6 +61,6 @@ returns c =
     let b : Block = record { bytes = a.bytes.now; f = a.words.f; s = a.words.s; table = a.table.now } in
     let w : Flow = new_flow a.bits a.points.now a.k (lent_of a.acc.now a.store.now a.soft.now) in
     let e : h.j ≡ a.calls = omega (arith, h.invariant.0, c.loop-j-test) in
-    let z = new_flow_lem a.bits a.points.now a.k a.acc.now _ a.store.now a.soft.now n.result p.result n.ensures.0 n.ensures.1 (rw (to_z-of_z c.ranges.k) at p.ensures) in
+    let z = new_flow_lem a.bits a.points.now a.k a.acc.now _ a.store.now a.soft.now n.result p.result n.ensures.0 n.ensures.1 (rw (to_z-of_z {w = w64} c.ranges.k) at p.ensures) in
     let q = h.invariant.2 ∙ ap (λ (x : Flow). feed_many b h.j x) z ∙ ap (λ (v : ℕ). feed_many b v w) e in
     (ap received q, ap (λ (x : Flow). x.lent) q)

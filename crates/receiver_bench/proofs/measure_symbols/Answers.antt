@@ -5,6 +5,7 @@ use native.Mathlib.Omega.{arith}
 use lib.ListN.{length}
 use lib.IntN.{ℤ, pos}
 use mir.Facts.{to_z-of_z}
+use mir.Syntax.{w8, w64}
 use Rattle.receiver.specs.Answers.{new_acc, new_answer, points_answer}
 use Rattle.receiver.specs.Feed.{Block}
 use Rattle.receiver_bench.specs.Streams.{Flow, flow, lent_of, new_flow, received, symbol_many}
@@ -39,14 +40,14 @@ loop-i-preserved c =
     let b : Block = record { bytes = a.bytes.now; f = a.words.f; s = a.words.s; table = a.table.now } in (
       omega (arith, c.loop-i-test.true),
       symbol_more b h.i _ (flow h.r h.i h.refusal (lent_of h.acc h.store h.soft)) _ _ g.result _ _ _ h.invariant.1
-          (to_z-of_z (record { sfits = c.symbol-arg-1.given })) (to_z-of_z (record { sfits = c.symbol-arg-in-loop-i-1.given })) g.ensures.0 g.ensures.1 g.ensures.2 g.ensures.3,
-      g.auto.1.1.1.1.1.1.0 ∙ h.invariant.2,
-      g.auto.1.1.1.1.1.1.1.0 ∙ h.invariant.3,
-      g.auto.1.1.1.1.1.1.1.1.0 ∙ h.invariant.4,
+          (to_z-of_z {w = w8} (record { sfits = c.symbol-arg-1.given })) (to_z-of_z {w = w8} (record { sfits = c.symbol-arg-in-loop-i-1.given })) g.ensures.0 g.ensures.1 g.ensures.2 g.ensures.3,
+      g.auto.acc ∙ h.invariant.2,
+      g.auto.store ∙ h.invariant.3,
+      g.auto.soft ∙ h.invariant.4,
     )
 
 pub shape_of-acc : goal.shape_of-acc
-shape_of-acc c = c.loop-i.invariant.2 ∙ c.new-a.auto.1.1.0
+shape_of-acc c = c.loop-i.invariant.2 ∙ c.new-a.auto.acc
 
 pub shape_of-store : goal.shape_of-store
 shape_of-store c = c.loop-i.invariant.3
@@ -63,6 +64,6 @@ returns c =
     let b : Block = record { bytes = a.bytes.now; f = a.words.f; s = a.words.s; table = a.table.now } in
     let w : Flow = new_flow a.bits a.points.now a.k (lent_of a.acc.now a.store.now a.soft.now) in
     let e : h.i ≡ length a.bytes.now / 2 = omega (arith, h.invariant.0, c.loop-i-test) in
-    let z = new_flow_lem a.bits a.points.now a.k a.acc.now _ a.store.now a.soft.now n.result p.result n.ensures.0 n.ensures.1 (rw (to_z-of_z c.ranges.k) at p.ensures) in
+    let z = new_flow_lem a.bits a.points.now a.k a.acc.now _ a.store.now a.soft.now n.result p.result n.ensures.0 n.ensures.1 (rw (to_z-of_z {w = w64} c.ranges.k) at p.ensures) in
     let q = h.invariant.1 ∙ ap (λ (x : Flow). symbol_many b h.i x) z ∙ ap (λ (v : ℕ). symbol_many b v w) e in
     (ap received q, ap (λ (x : Flow). x.lent) q)

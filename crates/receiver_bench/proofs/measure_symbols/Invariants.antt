@@ -12,7 +12,7 @@ use borrow.Author.Rules.{rules}
 use Rattle.receiver_bench.proofs.measure_symbols.Given as goal
 
 abbrev pub invariant-loop-i : goal.invariant-loop-i
-invariant-loop-i l = (l.i ≤ l.m) × (flow l.r l.i l.refusal (lent_of l.acc l.store l.soft) ≡ symbol_many (record { l.bytes = l.bytes; l.f = l.f; l.s = l.s; l.table = l.table }) l.i (flow l.initial.r 0 l.initial.refusal (lent_of l.initial.acc l.initial.store l.initial.soft)))
+invariant-loop-i l = (l.i ≤ l.m) × (flow l.r l.i l.refusal (lent_of l.acc l.store l.soft) ≡ symbol_many (record { bytes = l.bytes; f = l.f; s = l.s; table = l.table }) l.i (flow l.initial.r 0 l.initial.refusal (lent_of l.initial.acc l.initial.store l.initial.soft)))
     × (length l.acc ≡ length l.initial.acc) × (length l.store ≡ length l.initial.store) × (length l.soft ≡ length l.initial.soft)
 
 abbrev pub decreases-loop-i : goal.decreases-loop-i

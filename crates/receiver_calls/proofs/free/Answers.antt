@@ -1,8 +1,8 @@
 -- `receiver_calls::free` meets its contract. Assumes nothing.
+use native.Mathlib.Omega.{arith}
 use Rattle.receiver_calls.proofs.Laws.{plain-none}
 use Rattle.receiver_calls.specs.Calls.{plain}
 use Rattle.receiver_calls.specs.Turns.{plain_of}
-use Rattle.wire.proofs.Laws.{past}
 use borrow.Author.Rules.{rules}
 use mathlib.Core.Path.{◌∙◌}
 use Rattle.receiver_calls.proofs.free.Goals as goal
@@ -32,4 +32,4 @@ unfolding plain_of
 returns-in-5 c = rw (c.in-5.is, c.event.ensures)
 
 pub returns-in_default : goal.returns-in_default
-returns-in_default c = c.plain.ensures ∙ plain-none c.args.n c.args.p.now c.args.k (past 6 _ c.in-0.rest)
+returns-in_default c = c.plain.ensures ∙ plain-none c.args.n c.args.p.now c.args.k (omega arith)

@@ -12,4 +12,4 @@ returns c =
     let x = c.event-a in
     let y = c.event-b in
     let z = c.event-c in
-    three-wrote a.out.now x.new.1.0 y.new.1.0 z.new.1.0 a.place x.result y.result z.result (event_line a.es.first) (event_line a.es.second) (event_line a.es.third) (event_short a.es.first) (event_short a.es.second) (event_short a.es.third) c.requires x.ensures y.ensures z.ensures
+    three-wrote a.out.now x.new.out y.new.out z.new.out a.place x.result y.result z.result (event_line a.es.first) (event_line a.es.second) (event_line a.es.third) (event_short a.es.first) (event_short a.es.second) (event_short a.es.third) c.requires x.ensures y.ensures z.ensures

@@ -34,7 +34,7 @@ loop-go-preserved c =
       E.ensures.2,
       search rules,
       c.more-go-in-loop-go.ensures,
-      page-next a.run a.run.count L.q E.result a.soft.now L.out E.new.1.1.1.0 h t E.ensures.1 E.ensures.0 ∙ L.invariant.5,
+      page-next a.run a.run.count L.q E.result a.soft.now L.out E.new.out h t E.ensures.1 E.ensures.0 ∙ L.invariant.5,
     )
 
 pub returns : goal.returns

@@ -12,13 +12,13 @@ unfolding last_text
 returns-then-refusal-eq0 c =
     let a = c.args in
     let x = c.end-r in
-    let w = line_wrote a.out.now a.place (end_line a.symbols) x.new.1.0 x.result (end_short a.symbols) c.requires x.ensures in
-    subst (λ (t : List ℕ). Wrote a.out.now a.place t x.new.1.0 x.result.place) (sym (if_yes _ _ _ (eq-eqb a.refusal 0 c.if-refusal-eq0.true))) w
+    let w = line_wrote a.out.now a.place (end_line a.symbols) x.new.out x.result (end_short a.symbols) c.requires x.ensures in
+    subst (λ (t : List ℕ). Wrote a.out.now a.place t x.new.out x.result.place) (sym (if_yes _ _ _ (eq-eqb a.refusal 0 c.if-refusal-eq0.true))) w
 
 pub returns-else-refusal-eq0 : goal.returns-else-refusal-eq0
 unfolding last_text
 returns-else-refusal-eq0 c =
     let a = c.args in
     let x = c.refused-r in
-    let w = line_wrote a.out.now a.place (refused_line a.refusal) x.new.1.0 x.result (refused_short a.refusal) c.requires x.ensures in
-    subst (λ (t : List ℕ). Wrote a.out.now a.place t x.new.1.0 x.result.place) (sym (if_no _ _ _ (ne_eqb a.refusal 0 c.if-refusal-eq0.false))) w
+    let w = line_wrote a.out.now a.place (refused_line a.refusal) x.new.out x.result (refused_short a.refusal) c.requires x.ensures in
+    subst (λ (t : List ℕ). Wrote a.out.now a.place t x.new.out x.result.place) (sym (if_no _ _ _ (ne_eqb a.refusal 0 c.if-refusal-eq0.false))) w

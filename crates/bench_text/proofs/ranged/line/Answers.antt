@@ -24,8 +24,8 @@ returns-then-prints c =
     let b = below j a.run.bits y in
     let t = taken a.soft.now a.p.v a.run.bits E.result g.1 E.ensures in
     let f = few a.soft.now a.p.v a.run.bits E.result g.1 E.ensures b.1 in
-    let w = soft-wrote a.out.now a.p.place W.result ((a.run.at + a.p.i) % 2 ^ 64) j (take (E.result - a.p.v) (drop a.p.v a.soft.now)) (take a.run.bits (drop a.p.v a.soft.now)) S.new.1.1.1.0 S.result W.ensures t f g.2 S.ensures in (
-      printed a.run a.p a.soft.now a.out.now S.new.1.1.1.0 S.result.place E.result y w (behind a.soft.now a.p.v a.run.bits E.result g.1 E.ensures),
+    let w = soft-wrote a.out.now a.p.place W.result ((a.run.at + a.p.i) % 2 ^ 64) j (take (E.result - a.p.v) (drop a.p.v a.soft.now)) (take a.run.bits (drop a.p.v a.soft.now)) S.new.out S.result W.ensures.value t f g.2 S.ensures in (
+      printed a.run a.p a.soft.now a.out.now S.new.out S.result.place E.result y w (behind a.soft.now a.p.v a.run.bits E.result g.1 E.ensures),
       refl,
       omega (arith, E.ensures, min-le_right (a.p.v + a.run.bits) (length a.soft.now)),
     )

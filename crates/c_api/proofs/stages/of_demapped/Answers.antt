@@ -9,9 +9,8 @@ use Rattle.c_api.proofs.stages.of_demapped.Goals as goal
 pub returns-in-Least : goal.returns-in-Least
 unfolding demapped
 returns-in-Least c =
-    let a = c.a-1 in
-    let f : SFits w64 a.given.0.0 = search rules in
-    rw (to_z-of_z f, a.given.1)
+    let f : SFits w64 c.in-Least.m = search rules in
+    rw (to_z-of_z f, c.in-Least.is)
 
 pub returns-in-Refused : goal.returns-in-Refused
 unfolding demapped

@@ -1,5 +1,4 @@
 -- `carrier::plain::in_range` meets its contract: one case of the trail at each return. Assumes nothing.
-use borrow.Author.Rules.{rules}
 use Rattle.carrier.specs.Ranges.{trail_in_range, nco_in_range}
 use Rattle.carrier.proofs.plain.in_range.Goals as goal
 

@@ -1,7 +1,6 @@
 -- `carrier::ranged::another` meets its contract: one case at each return. Assumes nothing.
 use Prim.Native.Nat.{◌+◌, ◌<◌, ◌^◌}
 use native.Mathlib.Omega.{arith}
-use borrow.Author.Rules.{rules}
 use lib.IntN.{◌+ℤ◌}
 use lib.Signed.{mag}
 use mir.Syntax.{w32, w64}

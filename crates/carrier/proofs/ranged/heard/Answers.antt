@@ -1,5 +1,4 @@
 -- `carrier::ranged::heard` meets its contract: one word at each return. Assumes nothing.
-use borrow.Author.Rules.{rules}
 use Rattle.carrier.specs.Carrier.{word_heard, heard_of}
 use Rattle.carrier.proofs.ranged.heard.Goals as goal
 

@@ -1,6 +1,5 @@
 -- `carrier::ranged::rotated` meets its contract: a symbol's bytes turned back stay within 4,096. Assumes nothing.
 use native.Mathlib.Omega.{arith}
-use borrow.Author.Rules.{rules}
 use lib.IntN.{ℤ}
 use mathlib.Core.Path.{◌≡◌}
 use mir.Syntax.{w8, w16, w64}

@@ -1,7 +1,6 @@
 -- `carrier::ranged::ssync` meets its contract: one case of the trail at each return. Assumes nothing.
 use Prim.Native.Nat.{◌<◌, ◌^◌}
 use mathlib.Core.Path.{sym, ap, ◌∙◌}
-use borrow.Author.Rules.{rules}
 use lib.Signed.{mag}
 use mir.Syntax.{w32}
 use Rattle.laws.proofs.Size.{back}

@@ -1,7 +1,6 @@
 -- `carrier::refusals::head` meets its contract: one case at each return. Assumes nothing.
 use Prim.Native.Nat.{◌<◌, ◌^◌}
 use mathlib.Core.Path.{◌≡◌}
-use borrow.Author.Rules.{rules}
 use lib.Signed.{mag}
 use mir.Syntax.{w64}
 use Rattle.laws.proofs.Size.{back}

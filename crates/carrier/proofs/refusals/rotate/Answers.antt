@@ -1,5 +1,4 @@
 -- `carrier::refusals::rotate` meets its contract: one case at each return. Assumes nothing.
-use borrow.Author.Rules.{rules}
 use Rattle.laws.specs.Choice.{cases}
 use Rattle.carrier.specs.Answers.{rotate_refusal}
 use Rattle.carrier.proofs.refusals.rotate.Goals as goal

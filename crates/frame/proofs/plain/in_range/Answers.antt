@@ -1,5 +1,4 @@
 -- `frame::plain::in_range` meets its contract. Assumes nothing.
-use borrow.Author.Rules.{rules}
 use Rattle.frame.specs.Ranges.{back_in_range}
 use Rattle.frame.proofs.plain.in_range.Goals as goal
 

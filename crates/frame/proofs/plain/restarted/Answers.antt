@@ -1,5 +1,4 @@
 -- `frame::plain::restarted` meets its contract. Assumes nothing.
-use borrow.Author.Rules.{rules}
 use Rattle.frame.specs.Align.{restarted_back}
 use Rattle.frame.proofs.plain.restarted.Goals as goal
 

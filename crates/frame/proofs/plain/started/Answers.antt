@@ -1,5 +1,4 @@
 -- `frame::plain::started` meets its contract. Assumes nothing.
-use borrow.Author.Rules.{rules}
 use Rattle.frame.specs.Align.{started_back}
 use Rattle.frame.proofs.plain.started.Goals as goal
 

@@ -1,5 +1,4 @@
 -- `frame::ranged::equalised` meets its contract. Assumes nothing.
-use borrow.Author.Rules.{rules}
 use Rattle.frame.specs.Align.{equalised_by}
 use Rattle.frame.proofs.ranged.equalised.Goals as goal
 

@@ -1,5 +1,4 @@
 -- `frame::ranged::joined_to` meets its contract. Assumes nothing.
-use borrow.Author.Rules.{rules}
 use Rattle.laws.specs.Choice.{cases}
 use Rattle.frame.specs.Align.{joined_to}
 use Rattle.frame.proofs.ranged.joined_to.Goals as goal

@@ -1,5 +1,4 @@
 -- `frame::ranged::pushed` meets its contract. Assumes nothing.
-use borrow.Author.Rules.{rules}
 use Rattle.frame.specs.Align.{pushed_back}
 use Rattle.frame.proofs.ranged.pushed.Goals as goal
 

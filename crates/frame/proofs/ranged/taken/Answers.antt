@@ -1,6 +1,5 @@
 -- `frame::ranged::taken` meets its contract. Assumes nothing.
 use mir.Syntax.{w16}
-use borrow.Author.Rules.{rules}
 use Rattle.laws.specs.Choice.{cases}
 use Rattle.laws.proofs.Size.{back}
 use Rattle.frame.specs.Align.{taken_by}

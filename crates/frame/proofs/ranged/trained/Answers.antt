@@ -1,7 +1,6 @@
 -- `frame::ranged::trained` meets its contract. Assumes nothing.
 use mathlib.Core.Path.{sym}
 use mir.Syntax.{w16}
-use borrow.Author.Rules.{rules}
 use Rattle.laws.proofs.Size.{back}
 use Rattle.laws.specs.Choice.{cases}
 use Rattle.frame_map.proofs.Laws.{part_sync}

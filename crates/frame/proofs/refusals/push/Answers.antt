@@ -5,7 +5,6 @@ use Prim.Native.Nat.{◌<◌, ◌^◌}
 use lib.Dec.{ltb}
 use lib.Signed.{mag}
 use mir.Syntax.{w64}
-use borrow.Author.Rules.{rules}
 use Rattle.laws.proofs.Tests.{and_both}
 use Rattle.laws.proofs.Size.{back}
 use Rattle.laws.specs.Choice.{cases}

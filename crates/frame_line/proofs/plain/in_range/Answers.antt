@@ -1,5 +1,4 @@
 -- `frame_line::plain::in_range` meets its contract. Assumes nothing.
-use borrow.Author.Rules.{rules}
 use Rattle.frame_line.specs.Ranges.{metas_in_range}
 use Rattle.frame_line.proofs.plain.in_range.Goals as goal
 

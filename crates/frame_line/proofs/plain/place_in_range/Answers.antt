@@ -1,5 +1,4 @@
 -- `frame_line::plain::place_in_range` meets its contract. Assumes nothing.
-use borrow.Author.Rules.{rules}
 use Rattle.frame_line.specs.Ranges.{place_in_range}
 use Rattle.frame_line.proofs.plain.place_in_range.Goals as goal
 

@@ -5,7 +5,6 @@ use Prim.Native.Nat.{◌^◌}
 use native.Mathlib.Omega.{arith}
 use lib.Dec.{ltb}
 use borrow.Author.Tests.{ltb-true}
-use borrow.Author.Rules.{rules}
 use Rattle.frame_line.specs.Ranges.{last_in_range}
 use Rattle.frame_line.specs.Line.{gap_at}
 use Rattle.frame_line.proofs.ranged.gap.Goals as goal

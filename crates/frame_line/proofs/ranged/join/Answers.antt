@@ -1,5 +1,4 @@
 -- `frame_line::ranged::join` meets its contract. Assumes nothing.
-use borrow.Author.Rules.{rules}
 use Rattle.frame_line.specs.Line.{joined}
 use Rattle.frame_line.proofs.ranged.join.Goals as goal
 

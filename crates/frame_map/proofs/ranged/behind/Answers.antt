@@ -1,6 +1,5 @@
 -- `frame_map::ranged::behind` meets its contract. Assumes nothing.
 use mathlib.Core.Path.{sym}
-use borrow.Author.Rules.{rules}
 use Rattle.frame_map.proofs.Laws.{main_run, tmcc_run}
 use Rattle.frame_map.proofs.ranged.behind.Goals as goal
 

@@ -1,6 +1,5 @@
 -- `frame_map::ranged::part` meets its contract. Assumes nothing.
 use mathlib.Core.Path.{sym, ◌∙◌}
-use borrow.Author.Rules.{rules}
 use Rattle.frame_map.proofs.Laws.{part_sync, part_pilot, part_behind}
 use Rattle.frame_map.proofs.ranged.part.Goals as goal
 

@@ -1,6 +1,5 @@
 -- `frame_map::ranged::scaled` meets its contract. Assumes nothing.
 use Prim.Native.Nat.{◌≤◌}
-use borrow.Author.Rules.{rules}
 use lib.IntN.{ℤ, pos, neg_ℤ, nat_abs, ◌*ℤ◌, +ℤ_idl}
 use mir.Facts.{to_z-of_z, sfits_widen}
 use mir.Syntax.{w8, w16}

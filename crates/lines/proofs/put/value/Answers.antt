@@ -17,7 +17,7 @@ returns-then-negative c =
     let m = c.byte-b.ensures in
     let N = c.number in
     let n = rw (c.size-n.ensures, to_z-of_z c.ranges.v) at N.ensures.0 in (
-      subst (λ (l : List ℕ). Wrote c.args.out.now c.args.at l N.new.0 N.result) (sym (value_neg v t)) (then (then b m) n),
+      subst (λ (l : List ℕ). Wrote c.args.out.now c.args.at l N.new.out N.result) (sym (value_neg v t)) (then (then b m) n),
       omega (arith, N.ensures.1, b.behind, m.behind),
     )
 
@@ -28,6 +28,6 @@ returns-else-negative c =
     let t = sym (rw (to_z-of_z c.ranges.v) at c.negative.ensures) ∙ c.if-negative.false in
     let N = c.number-else-negative in
     let n = rw (c.size-n.ensures, to_z-of_z c.ranges.v) at N.ensures.0 in (
-      subst (λ (l : List ℕ). Wrote c.args.out.now c.args.at l N.new.0 N.result) (sym (value_pos v t)) (then b n),
+      subst (λ (l : List ℕ). Wrote c.args.out.now c.args.at l N.new.out N.result) (sym (value_pos v t)) (then b n),
       omega (arith, N.ensures.1, b.behind),
     )

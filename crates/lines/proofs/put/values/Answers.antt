@@ -27,7 +27,7 @@ loop-i-preserved c =
     let E = c.value-to in
     let v = rw (back w8 (get_or a.v.now c.loop-i.i (pos 0)) c.value-arg-in-loop-i-1.given) at E.ensures.0 in (
       omega arith,
-      subst (λ (t : List ℕ). Wrote a.out.now a.at t E.new.0 E.result) (values_more a.v.now c.loop-i.i) (then w v),
+      subst (λ (t : List ℕ). Wrote a.out.now a.at t E.new.out E.result) (values_more a.v.now c.loop-i.i) (then w v),
       omega (arith, c.loop-i.invariant.2, E.ensures.1),
     )
 

@@ -1,5 +1,4 @@
 -- `phase::plain::in_range` meets its contract. Assumes nothing.
-use borrow.Author.Rules.{rules}
 use Rattle.phase.specs.Ranges.{phase_in_range}
 use Rattle.phase.proofs.plain.in_range.Goals as goal
 

@@ -1,6 +1,5 @@
 -- `phase::ranged::due` meets its contract. Assumes nothing.
 use mathlib.Core.Path.{sym, subst}
-use borrow.Author.Rules.{rules}
 use borrow.Author.Tests.{eq-eqb, ne_eqb}
 use Rattle.laws.specs.Choice.{cases, if_yes, if_no}
 use Rattle.phase.specs.Phase.{due_in}

@@ -1,5 +1,4 @@
 -- `phase::refusals::correct` meets its contract. Assumes nothing.
-use borrow.Author.Rules.{rules}
 use Rattle.laws.specs.Choice.{cases}
 use Rattle.phase.specs.Answers.{correct_refusal}
 use Rattle.phase.proofs.refusals.correct.Goals as goal

@@ -1,6 +1,5 @@
 -- `phase::refusals::held_past` meets its contract. Assumes nothing.
 use mathlib.Core.Path.{◌∙◌}
-use borrow.Author.Rules.{rules}
 use Rattle.laws.specs.Choice.{cases}
 use Rattle.phase.specs.Answers.{held_past}
 use Rattle.phase.proofs.refusals.held_past.Goals as goal

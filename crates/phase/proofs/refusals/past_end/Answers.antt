@@ -1,5 +1,4 @@
 -- `phase::refusals::past_end` meets its contract. Assumes nothing.
-use borrow.Author.Rules.{rules}
 use Rattle.phase.specs.Answers.{past_end}
 use Rattle.phase.proofs.refusals.past_end.Goals as goal
 

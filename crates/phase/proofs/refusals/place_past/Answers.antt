@@ -1,5 +1,4 @@
 -- `phase::refusals::place_past` meets its contract. Assumes nothing.
-use borrow.Author.Rules.{rules}
 use Rattle.phase.specs.Answers.{place_past}
 use Rattle.phase.proofs.refusals.place_past.Goals as goal
 

@@ -1,5 +1,4 @@
 -- `phase::refusals::push` meets its contract. Assumes nothing.
-use borrow.Author.Rules.{rules}
 use Rattle.laws.specs.Choice.{cases}
 use Rattle.phase.specs.Answers.{push_refusal}
 use Rattle.phase.proofs.refusals.push.Goals as goal

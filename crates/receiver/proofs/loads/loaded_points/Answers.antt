@@ -3,14 +3,15 @@ use Rattle.receiver.specs.Answers.{loaded_points}
 use borrow.Author.Rules.{rules}
 use mathlib.Core.Path.{◌∙◌}
 use mir.Facts.{to_z-of_z}
+use mir.Syntax.{w64}
 use native.Mathlib.Omega.{arith}
 use Rattle.receiver.proofs.loads.loaded_points.Goals as goal
 
 pub overflow_cast-result : goal.overflow_cast-result
 overflow_cast-result c =
-    let e = to_z-of_z c.ranges.k ∙ c.requires.1 in
+    let e = to_z-of_z {w = w64} c.ranges.k ∙ c.requires.1 in
     rw e (tt, record { fits = omega (arith, c.requires.2) })
 
 pub returns : goal.returns
 unfolding loaded_points
-returns c = rw (c.filled.ensures, to_z-of_z c.ranges.k)
+returns c = rw (c.filled.ensures, to_z-of_z {w = w64} c.ranges.k)

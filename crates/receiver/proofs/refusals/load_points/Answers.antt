@@ -3,6 +3,7 @@ use Rattle.receiver.specs.Answers.{points_refusal}
 use Rattle.laws.specs.Choice.{cases}
 use borrow.Author.Rules.{rules}
 use mir.Facts.{to_z-of_z}
+use mir.Syntax.{w64}
 use Rattle.receiver.proofs.refusals.load_points.Goals as goal
 
 pub returns-then-bad_points : goal.returns-then-bad_points
@@ -11,12 +12,12 @@ returns-then-bad_points c = rw (← c.bad_points.ensures) (search cases)
 
 pub returns-then-bad_scale : goal.returns-then-bad_scale
 unfolding points_refusal
-returns-then-bad_scale c = let k = rw (to_z-of_z c.ranges.k) at c.bad_scale.ensures in rw (← c.bad_points.ensures, ← k) (search cases)
+returns-then-bad_scale c = let k = rw (to_z-of_z {w = w64} c.ranges.k) at c.bad_scale.ensures in rw (← c.bad_points.ensures, ← k) (search cases)
 
 pub returns-then-receiver_within : goal.returns-then-receiver_within
 unfolding points_refusal
-returns-then-receiver_within c = let k = rw (to_z-of_z c.ranges.k) at c.bad_scale.ensures in rw (← c.bad_points.ensures, ← k, ← c.receiver_within.ensures) (search cases)
+returns-then-receiver_within c = let k = rw (to_z-of_z {w = w64} c.ranges.k) at c.bad_scale.ensures in rw (← c.bad_points.ensures, ← k, ← c.receiver_within.ensures) (search cases)
 
 pub returns-else-receiver_within : goal.returns-else-receiver_within
 unfolding points_refusal
-returns-else-receiver_within c = let k = rw (to_z-of_z c.ranges.k) at c.bad_scale.ensures in rw (← c.bad_points.ensures, ← k, ← c.receiver_within.ensures) (search cases)
+returns-else-receiver_within c = let k = rw (to_z-of_z {w = w64} c.ranges.k) at c.bad_scale.ensures in rw (← c.bad_points.ensures, ← k, ← c.receiver_within.ensures) (search cases)

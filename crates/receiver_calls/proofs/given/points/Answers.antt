@@ -8,6 +8,7 @@ use lib.ListN.{drop, drop_of_length-le}
 use mathlib.Core.List.{[], ◌++◌, append-nil}
 use mathlib.Core.Path.{◌∙◌, ◌≡◌, refl}
 use mir.Facts.{to_z-of_z}
+use mir.Syntax.{w16}
 use native.Mathlib.Omega.{arith}
 use Rattle.receiver_calls.proofs.given.points.Goals as goal
 
@@ -21,7 +22,7 @@ loop-k-preserved c =
     let s = c.args in
     let ys = c.no_points-t.result in (
       omega arith,
-      rw (to_z-of_z (record { sfits = c.pair_at.type_inv }), c.loop-k.invariant.1)
+      rw (to_z-of_z {w = w16} (record { sfits = c.pair_at.type_inv }), c.loop-k.invariant.1)
           (firsts-step (point_at s.bytes.now) ys c.loop-k.k c.pair_at.result c.pair_at.ensures (omega (arith, c.no_points-t.ensures))),
     )
 

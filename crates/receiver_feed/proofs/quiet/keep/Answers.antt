@@ -2,6 +2,7 @@
 use native.Mathlib.Omega.{arith}
 use lib.ListN.{length-set}
 use mir.Facts.{to_z-of_z}
+use mir.Syntax.{w16}
 use mathlib.Core.Path.{sym}
 use borrow.Author.Tests.{lt-ltb, le-ltb}
 use Rattle.laws.specs.Choice.{cases, if_yes, if_no}
@@ -14,7 +15,7 @@ bounds-store-c-then-c-lt9296 c = rw (length-set c.args.store.now _ _) (omega (ar
 
 pub returns-then-c-lt9296 : goal.returns-then-c-lt9296
 unfolding kept_at
-returns-then-c-lt9296 c = rw (to_z-of_z c.ranges.i, to_z-of_z c.ranges.q) (sym (if_yes _ _ _ (lt-ltb _ _ c.if-c-lt9296.true)))
+returns-then-c-lt9296 c = rw (to_z-of_z {w = w16} c.ranges.i, to_z-of_z {w = w16} c.ranges.q) (sym (if_yes _ _ _ (lt-ltb _ _ c.if-c-lt9296.true)))
 
 pub returns-else-c-lt9296 : goal.returns-else-c-lt9296
 unfolding kept_at

@@ -1,6 +1,7 @@
 -- Both ways by the slot phase. Assumes nothing.
 use mathlib.Core.Path.{◌≡◌}
 use mir.Facts.{to_z-of_z}
+use mir.Syntax.{w32}
 use Rattle.receiver_feed.specs.Quiet.{place_in}
 use borrow.Author.Rules.{rules}
 use Rattle.receiver_feed.proofs.quiet.moved.Goals as goal
@@ -13,8 +14,8 @@ quiet-requires-in-Holds c =
 
 pub returns-in-Idle : goal.returns-in-Idle
 unfolding place_in
-returns-in-Idle c = rw c.in-Idle.is (rw (to_z-of_z c.ranges.freq) at c.quiet.ensures)
+returns-in-Idle c = rw c.in-Idle.is (rw (to_z-of_z {w = w32} c.ranges.freq) at c.quiet.ensures)
 
 pub returns-in-Holds : goal.returns-in-Holds
 unfolding place_in
-returns-in-Holds c = rw c.in-Holds.is (rw (to_z-of_z c.ranges.freq) at c.quiet-in-Holds.ensures)
+returns-in-Holds c = rw c.in-Holds.is (rw (to_z-of_z {w = w32} c.ranges.freq) at c.quiet-in-Holds.ensures)

@@ -1,6 +1,6 @@
 -- The loop has gone through k symbols. Assumes nothing.
 use Rattle.laws.proofs.Size.{arg, at, fits, num}
-use mir.Syntax.{w16, w64}
+use mir.Syntax.{w8, w16, w64}
 use mir.Val.{of_z}
 use Rattle.receiver_feed.specs.Quiet.{Course, Moving}
 use Rattle.receiver_feed.proofs.Calm.{some_moved, tally_sum}
@@ -13,7 +13,7 @@ use lib.ListN.{length}
 use mir.Facts.{to_z-of_z}
 use mir.Val.{to_z}
 use mir.Syntax.{w32}
-use Rattle.laws.specs.Choice.{if◌then◌else◌, if_yes, if_no}
+use Rattle.laws.specs.Choice.{when◌then◌else◌, if_yes, if_no}
 use Rattle.receiver_bounds.specs.Bounds.{all_within, tally_within}
 use Rattle.receiver_feed.specs.Quiet.{Fits, moves, moving}
 use Rattle.receiver_feed.proofs.Calm.{end_most, first_fits, fits_more, goes_on_lem, moves_more, rolled-within}
@@ -54,18 +54,18 @@ loop-k-preserved c =
     let zi = (at w16 (num z.result.i 4096 z.ensures.1) tt).is in
     let zq = (at w16 (num z.result.q 4096 z.ensures.2) tt).is in
     let er = rw (zi, zq) at g.ensures.0 in
-    let eg = rw (to_z-of_z (record { sfits = c.keep-arg-in-loop-k-1.given }), to_z-of_z (record { sfits = c.keep-arg-in-loop-k-2-1.given })) at q.ensures in
-    let ea = c.turn_on-a.ensures ∙ ap (turned_by c.loop-k.a) ((at w64 (arg {w = w32} {z = s.freq} c.ranges.freq) tt).is ∙ sym (to_z-of_z c.ranges.freq)) in (
+    let eg = rw (to_z-of_z {w = w16} (record { sfits = c.keep-arg-in-loop-k-1.given }), to_z-of_z {w = w16} (record { sfits = c.keep-arg-in-loop-k-2-1.given })) at q.ensures in
+    let ea = c.turn_on-a.ensures ∙ ap (turned_by c.loop-k.a) ((at w64 (arg {w = w32} {z = s.freq} c.ranges.freq) tt).is ∙ sym (to_z-of_z {w = w32} c.ranges.freq)) in (
       omega (arith, t, v.1),
-      end_most _ _ _ _ c.up_to_lem.ensures (omega (arith, t, v.1)),
-      c.up_to_lem.ensures,
+      end_most _ _ _ _ c.up_to-end.ensures (omega (arith, t, v.1)),
+      c.up_to-end.ensures,
       moves_more d s.i s.p s.c c.loop-k.k m c.loop-k.win _ c.loop-k.y _ c.loop-k.acc _ c.loop-k.store _ c.loop-k.a _ _ _ z.result v.3
-          (to_z-of_z (record { sfits = c.rotated-arg-1.given })) (to_z-of_z (record { sfits = c.rotated-arg-in-loop-k-1.given })) z.ensures.0 er eg ea,
+          (to_z-of_z {w = w8} (record { sfits = c.rotated-arg-1.given })) (to_z-of_z {w = w8} (record { sfits = c.rotated-arg-in-loop-k-1.given })) z.ensures.0 er eg ea,
       fits_more d s.i s.p s.c c.loop-k.k m (moving c.loop-k.win c.loop-k.y c.loop-k.acc c.loop-k.store c.loop-k.a) v.3 (record { win = v.5; tally = f }) v.4,
       rolled-within s.rows.now _ _ _ _ _ er v.5 z.ensures.1 z.ensures.2,
       g.ensures.2,
-      g.auto.1.1.1.1.1.1.0 ∙ v.7,
-      q.auto.0 ∙ v.8,
+      g.auto.acc ∙ v.7,
+      q.auto.store ∙ v.8,
     )
 
 pub shape_of-acc : goal.shape_of-acc
@@ -78,7 +78,7 @@ pub returns : goal.returns
 returns c =
     let h = c.loop-k in
     let v = h.invariant in
-    let e = to_z-of_z c.ranges.freq in (
+    let e = to_z-of_z {w = w32} c.ranges.freq in (
       rw e at v.3,
       some_moved (tally_within h.y) c.args.n h.k h.end v.2 (omega (arith, c.loop-k-test)) c.requires.7 (λ z. rw (first_fits _ _ _ _ _ _ _ _ _ _ _ v.3 z) c.requires.10),
       v.0,

@@ -12,7 +12,7 @@ use lib.ListN.{length}
 use mir.Facts.{to_z-of_z}
 use mir.Val.{to_z}
 use mir.Syntax.{w32}
-use Rattle.laws.specs.Choice.{if◌then◌else◌, if_yes, if_no}
+use Rattle.laws.specs.Choice.{when◌then◌else◌, if_yes, if_no}
 use Rattle.receiver_bounds.specs.Bounds.{all_within, tally_within}
 use Rattle.receiver_feed.specs.Quiet.{Fits, moves, moving}
 use Rattle.receiver_feed.proofs.Calm.{end_most, first_fits, fits_more, goes_on_lem, moves_more, rolled-within}
@@ -20,9 +20,9 @@ use borrow.Author.Rules.{rules}
 use Rattle.receiver_feed.proofs.quiet.quiet.Given as goal
 
 abbrev pub invariant-loop-k : goal.invariant-loop-k
-invariant-loop-k l = (l.k ≤ l.n) × (l.end ≤ l.n) × (l.end ≡ (if tally_within l.y then l.n else l.k))
-    × (moving l.win l.y l.acc l.store l.a ≡ moves (record { l.bytes = l.bytes; l.table = l.table; l.rows = l.rows; l.freq = to_z w32 l.freq }) l.i l.p l.c l.k (moving l.initial.win l.initial.y l.initial.acc l.initial.store l.phase))
-    × ((j : ℕ) → j < l.k → Fits (moves (record { l.bytes = l.bytes; l.table = l.table; l.rows = l.rows; l.freq = to_z w32 l.freq }) l.i l.p l.c j (moving l.initial.win l.initial.y l.initial.acc l.initial.store l.phase)))
+invariant-loop-k l = (l.k ≤ l.n) × (l.end ≤ l.n) × (l.end ≡ (when tally_within l.y then l.n else l.k))
+    × (moving l.win l.y l.acc l.store l.a ≡ moves (record { bytes = l.bytes; table = l.table; rows = l.rows; freq = l.freq }) l.i l.p l.c l.k (moving l.initial.win l.initial.y l.initial.acc l.initial.store l.phase))
+    × ((j : ℕ) → j < l.k → Fits (moves (record { bytes = l.bytes; table = l.table; rows = l.rows; freq = l.freq }) l.i l.p l.c j (moving l.initial.win l.initial.y l.initial.acc l.initial.store l.phase)))
     × (all_within 4096 l.win ≡ true) × (length l.win ≡ 48) × (length l.acc ≡ 9296) × (length l.store ≡ 18592)
 
 abbrev pub decreases-loop-k : goal.decreases-loop-k

@@ -12,12 +12,12 @@ use Rattle.receiver_feed.proofs.ready.calm.Goals as goal
 pub reach-requires : goal.reach-requires
 reach-requires c =
     let r = c.args.r in
-    run_ready r.front.sync.run (run-wide r.front.sync.run (run_in r c.pre)) (sym c.past_end.ensures ∙ c.if-past_end.left)
+    run_ready r.front.sync.run (run-wide r.front.sync.run (run_in r c.requires)) (sym c.past_end.ensures ∙ c.if-past_end.false)
 
 pub returns-then-past_end : goal.returns-then-past_end
 unfolding calm_of next_of
-returns-then-past_end c = rw (c.pre, ← c.past_end.ensures) (search cases)
+returns-then-past_end c = rw (c.requires, ← c.past_end.ensures) (search cases)
 
 pub returns-else-past_end : goal.returns-else-past_end
 unfolding calm_of next_of
-returns-else-past_end c = rw (c.smaller.ensures, c.reach.ensures.0, c.pre, ← c.past_end.ensures) (search cases)
+returns-else-past_end c = rw (c.smaller.ensures, c.reach.ensures.0, c.requires, ← c.past_end.ensures) (search cases)

@@ -5,7 +5,7 @@ use mathlib.Core.Bool.{true, false}
 use mathlib.Core.Path.{◌≡◌, refl, sym, ap, ◌∙◌}
 use native.Mathlib.Omega.{arith}
 use lib.ListN.{length}
-use Rattle.laws.specs.Choice.{if◌then◌else◌, if_no}
+use Rattle.laws.specs.Choice.{when◌then◌else◌, if_no}
 use Rattle.receiver.specs.Ranges.{receiver_in_range}
 use Rattle.receiver_feed.specs.Turns.{Stands, rest_by, stand_from}
 use Rattle.receiver_feed.proofs.Stand.{first_rest, not_done, rest_end, rest_on}
@@ -29,9 +29,9 @@ pub loop-i-preserved : goal.loop-i-preserved
 loop-i-preserved c =
     let v = c.loop-i.invariant in
     let g = c.next-t in
-    let a = g.auto.1.1.1.1.1.1.1.1.0 in
-    let b = g.auto.1.1.1.1.1.1.1.1.1.0 in
-    let d = g.auto.1.1.1.1.1.1.1.1.1.1.0 in (
+    let a = g.auto.acc in
+    let b = g.auto.store in
+    let d = g.auto.soft in (
       refl,
       g.ensures.1.most,
       c.until-end.ensures,

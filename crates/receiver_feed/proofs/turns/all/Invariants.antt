@@ -4,7 +4,7 @@ use mathlib.Core.Bool.{true, false}
 use mathlib.Core.Path.{◌≡◌, refl, sym, ap, ◌∙◌}
 use native.Mathlib.Omega.{arith}
 use lib.ListN.{length}
-use Rattle.laws.specs.Choice.{if◌then◌else◌, if_no}
+use Rattle.laws.specs.Choice.{when◌then◌else◌, if_no}
 use Rattle.receiver.specs.Ranges.{receiver_in_range}
 use Rattle.receiver_feed.specs.Turns.{Stands, rest_by, stand_from}
 use Rattle.receiver_feed.proofs.Stand.{first_rest, not_done, rest_end, rest_on}
@@ -12,8 +12,8 @@ use borrow.Author.Rules.{rules}
 use Rattle.receiver_feed.proofs.turns.all.Given as goal
 
 abbrev pub invariant-loop-i : goal.invariant-loop-i
-invariant-loop-i l = (l.i ≡ l.t.used) × (l.i ≤ l.n) × (l.end ≡ (if l.t.done then l.t.used else l.n)) × (l.end ≤ l.n)
-    × (rest_by (record { l.bytes = l.bytes; l.f = l.f; l.s = l.s; l.table = l.table }) l.n l.t (record { l.acc = l.acc; l.store = l.store; l.soft = l.soft }) ≡ stand_from (record { l.bytes = l.bytes; l.f = l.f; l.s = l.s; l.table = l.table }) l.n 0 l.initial.t.receiver (record { l.acc = l.initial.acc; l.store = l.initial.store; l.soft = l.initial.soft }))
+invariant-loop-i l = (l.i ≡ l.t.used) × (l.i ≤ l.n) × (l.end ≡ (when l.t.done then l.t.used else l.n)) × (l.end ≤ l.n)
+    × (rest_by (record { bytes = l.bytes; f = l.f; s = l.s; table = l.table }) l.n l.t (record { acc = l.acc; store = l.store; soft = l.soft }) ≡ stand_from (record { bytes = l.bytes; f = l.f; s = l.s; table = l.table }) l.n 0 l.initial.t.receiver (record { acc = l.initial.acc; store = l.initial.store; soft = l.initial.soft }))
     × (Stands (length l.acc) (length l.store) (length l.soft) l.f l.s (length l.table)) × (length l.acc ≡ length l.initial.acc) × (length l.store ≡ length l.initial.store) × (length l.soft ≡ length l.initial.soft)
     × (l.t.done ≡ false → l.i ≡ 0 → receiver_in_range l.t.receiver ≡ true)
 

@@ -3,6 +3,7 @@ use mathlib.Core.Path.{◌≡◌, sym, ◌∙◌}
 use native.Mathlib.Omega.{arith}
 use lib.ListN.{length}
 use mir.Facts.{to_z-of_z}
+use mir.Syntax.{w8}
 use Rattle.receiver_symbol.proofs.Ready.{soon_known}
 use Rattle.receiver_feed.proofs.Stand.{single-end, state_soon, stopped_end}
 use borrow.Author.Rules.{rules}
@@ -22,7 +23,7 @@ returns-then-k-eq0 c =
     let a = c.args in
     let g = c.known-a.ensures in
     single-end (record { bytes = a.bytes.now; f = a.f.now; s = a.s.now; table = a.table.now }) a.n a.i a.r (record { acc = a.acc.now; store = a.store.now; soft = a.soft.now }) _ _ _ _ _ c.requires.0
-    (to_z-of_z (record { sfits = c.known-arg-1.given })) (to_z-of_z (record { sfits = c.known-arg-then-k-eq0-1.given })) g.0 g.1 g.2 g.3 c.told.ensures
+    (to_z-of_z {w = w8} (record { sfits = c.known-arg-1.given })) (to_z-of_z {w = w8} (record { sfits = c.known-arg-then-k-eq0-1.given })) g.0 g.1 g.2 g.3 c.told.ensures
 
 pub returns-else-k-eq0 : goal.returns-else-k-eq0
 returns-else-k-eq0 c =

@@ -28,7 +28,7 @@ pub single-requires-then-m-left : goal.single-requires-then-m-left
 single-requires-then-m-left c =
     let p = c.requires in
     let g = c.stretch-p in
-    (omega (arith, g.ensures.4, c.if-m-left.true, p.0), p.1, stands_same _ _ _ _ _ _ _ _ _ g.auto.1.1.1.1.1.1.0 g.auto.1.1.1.1.1.1.1.0 refl p.3, g.ensures.6)
+    (omega (arith, g.ensures.4, c.if-m-left.true, p.0), p.1, stands_same _ _ _ _ _ _ _ _ _ g.auto.acc g.auto.store refl p.3, g.ensures.6)
 
 pub stretch-p-requires-else-m-left : goal.stretch-p-requires-else-m-left
 stretch-p-requires-else-m-left c =

@@ -20,13 +20,13 @@ pub stop-requires : goal.stop-requires
 stop-requires c = omega (arith, c.requires, c.loop-i-test.true)
 
 pub shape_of-acc-then-stops : goal.shape_of-acc-then-stops
-shape_of-acc-then-stops c = c.one-a.auto.1.1.1.1.1.1.0 ∙ c.loop-i.invariant.1
+shape_of-acc-then-stops c = c.one-a.auto.acc ∙ c.loop-i.invariant.1
 
 pub shape_of-store-then-stops : goal.shape_of-store-then-stops
-shape_of-store-then-stops c = c.one-a.auto.1.1.1.1.1.1.1.0 ∙ c.loop-i.invariant.2
+shape_of-store-then-stops c = c.one-a.auto.store ∙ c.loop-i.invariant.2
 
 pub shape_of-soft-then-stops : goal.shape_of-soft-then-stops
-shape_of-soft-then-stops c = c.one-a.auto.1.1.1.1.1.1.1.1.0 ∙ c.loop-i.invariant.3
+shape_of-soft-then-stops c = c.one-a.auto.soft ∙ c.loop-i.invariant.3
 
 pub returns-then-stops : goal.returns-then-stops
 returns-then-stops c =
@@ -40,7 +40,7 @@ loop-i-preserved c =
     let h = c.loop-i in
     let s = c.args in
     let b = block s.x.now s.f s.s s.table.now in
-    (omega arith, c.one-a.auto.1.1.1.1.1.1.0 ∙ h.invariant.1, c.one-a.auto.1.1.1.1.1.1.1.0 ∙ h.invariant.2, c.one-a.auto.1.1.1.1.1.1.1.1.0 ∙ h.invariant.3, told-on b (s.n - (h.i + 1)) (s.n - h.i) h.i h.q (lent_of h.acc h.store h.soft) _ c.one-a.result _ (omega (arith, c.loop-i-test.true)) h.invariant.4 c.one-a.ensures.0 c.one-a.ensures.1 (rw (← c.stops.ensures) c.if-stops.false))
+    (omega arith, c.one-a.auto.acc ∙ h.invariant.1, c.one-a.auto.store ∙ h.invariant.2, c.one-a.auto.soft ∙ h.invariant.3, told-on b (s.n - (h.i + 1)) (s.n - h.i) h.i h.q (lent_of h.acc h.store h.soft) _ c.one-a.result _ (omega (arith, c.loop-i-test.true)) h.invariant.4 c.one-a.ensures.0 c.one-a.ensures.1 (rw (← c.stops.ensures) c.if-stops.false))
 
 pub shape_of-acc : goal.shape_of-acc
 shape_of-acc c = c.loop-i.invariant.1

@@ -22,6 +22,5 @@ returns-in-Nothing c =
 pub returns-in-Given : goal.returns-in-Given
 returns-in-Given c =
     let a = c.args in
-    let x = c.out-1 in
-    let e = ap (λ (y : Aligned). soft_all a.p (aligned_by y)) x.given.1 ∙ soft_given a.p x.given.0.0 in
+    let e = ap (λ (y : Aligned). soft_all a.p (aligned_by y)) c.in-Given.is ∙ soft_given a.p c.in-Given.a in
     rw e c.symbol.ensures

@@ -18,7 +18,7 @@ rest-requires c =
     let a = c.args in
     let h = c.requires in
     let g = c.first-g in
-    let r = c.rows_of_lem in
+    let r = c.rows_of-rows in
     let fit : length (soft_to 9296 a.p a.b a.w a.table.now a.store.now a.f.now a.s.now) ≤ length a.soft.now =
     omega (arith, h.buffer, soft_fits a.p a.b a.w a.table.now a.store.now a.f.now a.s.now h.points.bits h.back.metas) in
     let m = soft-room a.b a.w a.table.now a.store.now a.f.now a.s.now a.p (length a.soft.now) fit 29 (lit≤ tt) in
@@ -41,7 +41,7 @@ returns c =
     let a = c.args in
     let h = c.requires in
     let g = c.first-g in
-    let r = c.rows_of_lem in
+    let r = c.rows_of-rows in
     let t = c.rest.ensures in
     let line = rw t.0 at c.ended.ensures in (
       line ∙ end_back a.b a.w a.table.now a.store.now a.f.now a.s.now h.back g.result.back g.ensures.0,

@@ -33,8 +33,8 @@ loop-g-preserved c =
       at-end H d,
       omega (
         arith,
-        length-append q.new.1.0 (drop 272 L.z),
-        outs_kept s.result.from s.result.mains a.rows.now L.line a.w a.table.now a.store.now L.z q.new.1.0 L.invariant.2 H.most q.ensures.2,
+        length-append q.new.z (drop 272 L.z),
+        outs_kept s.result.from s.result.mains a.rows.now L.line a.w a.table.now a.store.now L.z q.new.z L.invariant.2 H.most q.ensures.2,
         length-drop 272 L.z,
         L.invariant.2,
       ),

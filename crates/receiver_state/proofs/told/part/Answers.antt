@@ -1,8 +1,8 @@
 -- `receiver_state::told::part` meets its contract. Assumes nothing.
+use native.Mathlib.Omega.{arith}
 use borrow.Author.Rules.{rules}
 use Rattle.receiver_state.specs.Told.{part_told}
 use Rattle.receiver_state.proofs.Laws.{told_none}
-use Rattle.wire.proofs.Laws.{past}
 use mathlib.Core.Path.{◌∙◌}
 use Rattle.receiver_state.proofs.told.part.Goals as goal
 
@@ -37,4 +37,4 @@ returns-in-6 c = rw (c.in-6.is, c.points.ensures)
 pub returns-in_default : goal.returns-in_default
 returns-in_default c =
     let a = c.args in
-    c.four.ensures ∙ told_none a.k a.p.now a.r (past 7 _ c.in-0.rest)
+    c.four.ensures ∙ told_none a.k a.p.now a.r (omega arith)

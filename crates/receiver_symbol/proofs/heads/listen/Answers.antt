@@ -2,14 +2,7 @@
 use Rattle.receiver_symbol.proofs.Hearing.{first_hears, first_phase, later_hears, later_phase, listened_due}
 use Rattle.receiver.specs.Heads.{listened}
 use mathlib.Core.Path.{◌≡◌}
-use Rattle.receiver_symbol.proofs.heads.listen.Lts as lts
-use Rattle.receiver_symbol.proofs.heads.listen.Tie as tie
-use Rattle.receiver_symbol.proofs.heads.listen.Reads as reads
 use Rattle.receiver_symbol.proofs.heads.listen.Goals as goal
-
-all-heard : (c : (lts.After-event_heard3 tie.the-claims reads.Pre reads.Post)) → c.event_heard-3.result ≡ listened 9296 c.args.l c.args.es
-unfolding listened
-all-heard c = rw (c.event_heard-3.ensures, c.event_heard-2.ensures, c.event_heard.ensures)
 
 pub event_heard-requires : goal.event_heard-requires
 event_heard-requires c =
@@ -31,8 +24,9 @@ event_heard-requires-3 c =
     (later_hears _ a.es.third (later_phase 9296 _ a.es.second (first_phase 9296 a.l a.es.first p.1 p.3.first) p.3.second) p.3.third)
 
 pub returns : goal.returns
+unfolding listened
 returns c =
     let a = c.args in
     let p = c.requires in
-    let e : c.event_heard-3.result ≡ listened 9296 a.l a.es = all-heard c in
+    let e : c.event_heard-3.result ≡ listened 9296 a.l a.es = rw (c.event_heard-3.ensures, c.event_heard-2.ensures, c.event_heard.ensures) in
     (e, rw e (listened_due 9296 a.l a.es p.1 p.2 p.3))

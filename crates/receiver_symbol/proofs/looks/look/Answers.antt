@@ -3,6 +3,7 @@ use Rattle.receiver_symbol.proofs.Laws.{advanced_ok}
 use Rattle.receiver_symbol.specs.Parts.{ahead_by}
 use borrow.Author.Rules.{rules}
 use mir.Facts.{to_z-of_z}
+use mir.Syntax.{w8}
 use Rattle.receiver_symbol.proofs.looks.look.Goals as goal
 
 pub step-st-requires : goal.step-st-requires
@@ -15,5 +16,5 @@ listen-requires c =
 pub returns : goal.returns
 unfolding ahead_by
 returns c =
-    let w = rw (to_z-of_z c.ranges.xi, to_z-of_z c.ranges.xq) at c.window-win.ensures in
+    let w = rw (to_z-of_z {w = w8} c.ranges.xi, to_z-of_z {w = w8} c.ranges.xq) at c.window-win.ensures in
     (rw (c.listen.ensures.0, c.advanced.ensures, c.step-st.ensures.0, w), c.listen.ensures.1)

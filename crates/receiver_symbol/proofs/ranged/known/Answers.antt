@@ -6,6 +6,7 @@ use borrow.Author.Rules.{rules}
 use lib.ListN.{length}
 use mathlib.Core.Path.{◌∙◌}
 use mir.Facts.{to_z-of_z}
+use mir.Syntax.{w8}
 use Rattle.receiver_symbol.proofs.ranged.known.Goals as goal
 
 pub look-a-requires : goal.look-a-requires
@@ -18,7 +19,7 @@ returns c =
     let l : Lent = record { acc = a.acc.now; store = a.store.now; soft = a.soft.now } in
     let k = known_soon a.r (length a.acc.now) (length a.store.now) (length a.soft.now) a.f.now a.s.now (length a.table.now) c.requires in
     let p = c.place-p.ensures.0 in
-    let e = rw (to_z-of_z c.ranges.xi, to_z-of_z c.ranges.xq, p) at c.look-a.ensures.0 in
+    let e = rw (to_z-of_z {w = w8} c.ranges.xi, to_z-of_z {w = w8} c.ranges.xq, p) at c.look-a.ensures.0 in
     let g = c.go_on.ensures in (
       g.0 ∙ rw e (answer-later a.r x l k),
       g.1 ∙ rw (e, p) (acc-later a.r x l k),
