@@ -11,16 +11,15 @@ use lib.Seq.{take_all, length-take-le}
 use Rattle.laws.proofs.Lists.{length-firsts}
 use Rattle.laws.proofs.Tests.{if_either}
 use Rattle.wire.specs.Wire.{byte_at, packed_of, numbers_of}
-use Rattle.fields.proofs.Laws.{NoneFrom, past_from}
 use Rattle.fields.specs.Fields.{at}
 use Rattle.demap_replay.specs.Kept.{turned}
 use Rattle.demap_replay.specs.Told.{single_told}
 use Rattle.demap_replay.specs.Replay.{Desk, reads, writes, learneds, nominals, read_of, turn_of, learned_of, nominal_of, answer_bytes}
 
 -- a call that there is not
-pub read_none : (op : ℕ) (p : List ℕ) (d : Desk) → 12 ≤ op → NoneFrom 12 8 op → single_told 255 0 0 ≡ read_of op p d
+pub read_none : (op : ℕ) (p : List ℕ) (d : Desk) → 20 ≤ op → single_told 255 0 0 ≡ read_of op p d
 unfolding read_of
-read_none op p d h t = sym (get_or-eq_default (replicate 12 (single_told 255 0 0) ++ reads p d) (single_told 255 0 0) (past_from 12 8 op h t))
+read_none op p d h = sym (get_or-eq_default (replicate 12 (single_told 255 0 0) ++ reads p d) (single_told 255 0 0) h)
 
 -- a call that writes nothing
 pub slices_none : (op : ℕ) (p : List ℕ) (d : Desk) → 12 ≤ op → (turned d.kept (read_of op p d) ≡ turn_of op p d) × (d.learned ≡ learned_of op p d) × (d.nominal ≡ nominal_of op p d)

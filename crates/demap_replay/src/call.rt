@@ -86,6 +86,6 @@ pub(crate) fn replace(
     let t = turn(p[0], k, &p, learned, nominal);
     let a = t.told;
     let bytes = wire::packed(&a);
-    bytes::copy(&bytes, &mut buf[at..]);
+    wire::streams::put(&bytes, buf, at);
     t.kept
 }

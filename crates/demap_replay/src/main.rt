@@ -14,6 +14,8 @@ ghost use Rattle.std.specs.Prelude.{◌≡◌, ◌*◌, ◌≤◌, length};
 ghost use Rattle.demap_replay.specs.Replay.{desk, replayed, left_of};
 
 use kept::Kept;
+use std::io;
+use std::io::Write;
 
 // 256 calls.
 const BLOCK: usize = 49152;
@@ -48,37 +50,47 @@ struct Left {
     next: Next,
 }
 
-fn next_of(got: usize, whole: usize, all: usize, written: bool) -> Next {
+fn next_of(got: usize, whole: usize, all: usize) -> Next {
     if whole < got {
         Next::Short
     } else if got < all {
         Next::Nothing
-    } else if written {
-        Next::Block
     } else {
-        Next::Nothing
+        Next::Block
     }
 }
 
-// Reads a block of calls and writes their answers. A write that fails ends the replay.
-fn block(k: Kept, buf: &mut [u8], learned: &mut [i16], nominal: &mut [i16]) -> Left {
-    let got = io::read_full(0, buf);
+// Reads a block of calls and writes their answers.
+fn block(
+    rt: &HostRuntime,
+    k: Kept,
+    buf: &mut [u8],
+    learned: &mut [i16],
+    nominal: &mut [i16],
+) -> io::Result<Left> {
+    let got = wire::streams::read_full(&mut rt.stdin(), buf)?;
     let n = got / 192;
     let whole = 192 * n;
     let s = replay(k, buf, n, learned, nominal);
-    let written = io::write_all(1, &buf[..whole]);
-    Left {
+    rt.stdout().write_all(&buf[..whole])?;
+    Ok(Left {
         kept: s,
-        next: next_of(got, whole, buf.len(), written),
-    }
+        next: next_of(got, whole, buf.len()),
+    })
 }
 
 // A proved loop has to end, and nothing says that the input does: the turns are counted down from a number that no run uses up.
-fn blocks(k: Kept, buf: &mut [u8], learned: &mut [i16], nominal: &mut [i16]) {
+fn blocks(
+    rt: &HostRuntime,
+    k: Kept,
+    buf: &mut [u8],
+    learned: &mut [i16],
+    nominal: &mut [i16],
+) -> io::Result<()> {
     let mut s = k;
     let mut turns = u64::MAX;
     while 0 < turns {
-        let l = block(s, buf, learned, nominal);
+        let l = block(rt, s, buf, learned, nominal)?;
         s = l.kept;
         let n = l.next;
         match n {
@@ -86,22 +98,23 @@ fn blocks(k: Kept, buf: &mut [u8], learned: &mut [i16], nominal: &mut [i16]) {
                 turns -= 1;
             }
             Next::Nothing => {
-                return;
+                return Ok(());
             }
             Next::Short => {
-                io::write_all(2, b"the input ends within a call\n");
-                return;
+                return rt.stderr().write_all(b"the input ends within a call\n");
             }
         }
     }
+    Ok(())
 }
 
-fn main() {
+// A read or a write that fails ends the replay with its error.
+fn main(rt: HostRuntime) -> io::Result<()> {
     let mut learned = [0i16; 125];
     let mut nominal = [0i16; 125];
     let mut buf = [0u8; BLOCK];
     let l = learn::new();
     let f = in_force::default();
     let k = Kept { learn: l, force: f };
-    blocks(k, &mut buf, &mut learned, &mut nominal);
+    blocks(&rt, k, &mut buf, &mut learned, &mut nominal)
 }

@@ -4,11 +4,10 @@ use mathlib.Core.Path.{◌≡◌, sym}
 use Prim.Native.Nat.{ℕ, zero, suc, ◌+◌, ◌≤◌}
 use native.Mathlib.Omega.{arith}
 use lib.ListN.{get_or-eq_default}
-use Rattle.fields.proofs.Laws.{NoneFrom, past_from}
 use Rattle.eq_calls.specs.declared.kept.Kept.{Kept}
 use Rattle.eq_calls.specs.Turns.{same, turns, turn_of}
 
 -- a call that there is not
-pub turn_none : (op : ℕ) (p : List ℕ) (k : Kept) → 9 ≤ op → NoneFrom 9 7 op → same k 255 ≡ turn_of op p k
+pub turn_none : (op : ℕ) (p : List ℕ) (k : Kept) → 16 ≤ op → same k 255 ≡ turn_of op p k
 unfolding turn_of
-turn_none op p k h t = sym (get_or-eq_default (turns p k) (same k 255) (past_from 9 7 op h t))
+turn_none op p k h = sym (get_or-eq_default (turns p k) (same k 255) h)

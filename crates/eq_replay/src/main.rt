@@ -9,6 +9,8 @@ ghost use Rattle.std.proofs.Math.Seq.{paste};
 ghost use Rattle.eq_replay.specs.Replay.{answer_bytes, after, replayed, left_of};
 
 use eq_calls::kept::Kept;
+use std::io;
+use std::io::Write;
 
 // 256 calls.
 const BLOCK: usize = 49152;
@@ -31,7 +33,7 @@ fn replace(k: Kept, buf: &mut [u8], at: usize) -> Kept
     let t = eq_calls::turn(p[0], k, &p);
     let a = t.told;
     let bytes = wire::packed(&a);
-    bytes::copy(&bytes, &mut buf[at..]);
+    wire::streams::put(&bytes, buf, at);
     t.kept
 }
 
@@ -56,37 +58,35 @@ struct Left {
     next: Next,
 }
 
-fn next_of(got: usize, whole: usize, all: usize, written: bool) -> Next {
+fn next_of(got: usize, whole: usize, all: usize) -> Next {
     if whole < got {
         Next::Short
     } else if got < all {
         Next::Nothing
-    } else if written {
-        Next::Block
     } else {
-        Next::Nothing
+        Next::Block
     }
 }
 
-// Reads a block of calls and writes their answers. A write that fails ends the replay.
-fn block(k: Kept, buf: &mut [u8]) -> Left {
-    let got = io::read_full(0, buf);
+// Reads a block of calls and writes their answers.
+fn block(rt: &HostRuntime, k: Kept, buf: &mut [u8]) -> io::Result<Left> {
+    let got = wire::streams::read_full(&mut rt.stdin(), buf)?;
     let n = got / 192;
     let whole = 192 * n;
     let s = replay(k, buf, n);
-    let written = io::write_all(1, &buf[..whole]);
-    Left {
+    rt.stdout().write_all(&buf[..whole])?;
+    Ok(Left {
         kept: s,
-        next: next_of(got, whole, buf.len(), written),
-    }
+        next: next_of(got, whole, buf.len()),
+    })
 }
 
 // A proved loop has to end, and nothing says that the input does: the turns are counted down from a number that no run uses up.
-fn blocks(k: Kept, buf: &mut [u8]) {
+fn blocks(rt: &HostRuntime, k: Kept, buf: &mut [u8]) -> io::Result<()> {
     let mut s = k;
     let mut turns = u64::MAX;
     while 0 < turns {
-        let l = block(s, buf);
+        let l = block(rt, s, buf)?;
         s = l.kept;
         let n = l.next;
         match n {
@@ -94,20 +94,21 @@ fn blocks(k: Kept, buf: &mut [u8]) {
                 turns -= 1;
             }
             Next::Nothing => {
-                return;
+                return Ok(());
             }
             Next::Short => {
-                io::write_all(2, b"the input ends within a call\n");
-                return;
+                return rt.stderr().write_all(b"the input ends within a call\n");
             }
         }
     }
+    Ok(())
 }
 
-fn main() {
+// A read or a write that fails ends the replay with its error.
+fn main(rt: HostRuntime) -> io::Result<()> {
     let mut buf = [0u8; BLOCK];
     let e = eq::new();
     let s = sums::new(0);
     let k = Kept { eq: e, sums: s };
-    blocks(k, &mut buf);
+    blocks(&rt, k, &mut buf)
 }

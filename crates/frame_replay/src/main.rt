@@ -14,6 +14,8 @@ ghost use Rattle.std.specs.Prelude.{◌≡◌, ◌*◌, ◌≤◌, length};
 ghost use Rattle.frame_replay.specs.Replay.{replayed, left_of};
 
 use kept::Kept;
+use std::io;
+use std::io::Write;
 
 // 256 calls.
 const BLOCK: usize = 49152;
@@ -47,37 +49,35 @@ struct Left {
     next: Next,
 }
 
-fn next_of(got: usize, whole: usize, all: usize, written: bool) -> Next {
+fn next_of(got: usize, whole: usize, all: usize) -> Next {
     if whole < got {
         Next::Short
     } else if got < all {
         Next::Nothing
-    } else if written {
-        Next::Block
     } else {
-        Next::Nothing
+        Next::Block
     }
 }
 
-// Reads a block of calls and writes their answers. A write that fails ends the replay.
-fn block(k: Kept, buf: &mut [u8]) -> Left {
-    let got = io::read_full(0, buf);
+// Reads a block of calls and writes their answers.
+fn block(rt: &HostRuntime, k: Kept, buf: &mut [u8]) -> io::Result<Left> {
+    let got = wire::streams::read_full(&mut rt.stdin(), buf)?;
     let n = got / 192;
     let whole = 192 * n;
     let s = replay(k, buf, n);
-    let written = io::write_all(1, &buf[..whole]);
-    Left {
+    rt.stdout().write_all(&buf[..whole])?;
+    Ok(Left {
         kept: s,
-        next: next_of(got, whole, buf.len(), written),
-    }
+        next: next_of(got, whole, buf.len()),
+    })
 }
 
 // A proved loop has to end, and nothing says that the input does: the turns are counted down from a number that no run uses up.
-fn blocks(k: Kept, buf: &mut [u8]) {
+fn blocks(rt: &HostRuntime, k: Kept, buf: &mut [u8]) -> io::Result<()> {
     let mut s = k;
     let mut turns = u64::MAX;
     while 0 < turns {
-        let l = block(s, buf);
+        let l = block(rt, s, buf)?;
         s = l.kept;
         let n = l.next;
         match n {
@@ -85,17 +85,18 @@ fn blocks(k: Kept, buf: &mut [u8]) {
                 turns -= 1;
             }
             Next::Nothing => {
-                return;
+                return Ok(());
             }
             Next::Short => {
-                io::write_all(2, b"the input ends within a call\n");
-                return;
+                return rt.stderr().write_all(b"the input ends within a call\n");
             }
         }
     }
+    Ok(())
 }
 
-fn main() {
+// A read or a write that fails ends the replay with its error.
+fn main(rt: HostRuntime) -> io::Result<()> {
     let mut buf = [0u8; BLOCK];
     let b = frame::new();
     let s = sums::new(0);
@@ -105,5 +106,5 @@ fn main() {
         f: [0; 48],
         s: [0; 48],
     };
-    blocks(k, &mut buf);
+    blocks(&rt, k, &mut buf)
 }

@@ -6,16 +6,14 @@ use native.Mathlib.Omega.{arith}
 use lib.IntN.{ℤ}
 use lib.ListN.{length, get_or-eq_default}
 use Rattle.laws.proofs.Lists.{length-firsts}
-use Rattle.wire.proofs.Laws.{NoneOf, past}
 use Rattle.wire.specs.Wire.{byte_at, packed_of, numbers_of}
 use Rattle.fields.specs.Fields.{at, four_told}
 use Rattle.phase_replay.specs.Replay.{Lent, Reads, answers, answer_of, answer_bytes}
 
 -- ---- a call that there is not
-pub answer_none : (op : ℕ) (p : List ℕ) (table store : List ℤ) → Reads op → NoneOf 13 op → four_told 255 0 0 0 ≡ answer_of op p table store
+pub answer_none : (op : ℕ) (p : List ℕ) (table store : List ℤ) → Reads op → 13 ≤ op → four_told 255 0 0 0 ≡ answer_of op p table store
 unfolding answer_of
 answer_none op p table store r h =
-    let g = past 13 op h in
     let a = r.0 in
     let b = r.1 in
     let d = r.2 in

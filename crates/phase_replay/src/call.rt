@@ -57,5 +57,5 @@ pub(crate) fn replace(buf: &mut [u8], at: usize, table: &mut [i16], store: &mut 
     let p = wire::ranged::numbers(&buf[at..]);
     let a = answered(p[0], &p, table, store);
     let bytes = wire::packed(&a);
-    bytes::copy(&bytes, &mut buf[at..]);
+    wire::streams::put(&bytes, buf, at);
 }

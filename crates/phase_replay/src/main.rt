@@ -12,6 +12,9 @@ mod told;
 ghost use Rattle.std.specs.Prelude.{◌≡◌, ◌*◌, ◌≤◌, length};
 ghost use Rattle.phase_replay.specs.Replay.{replayed, left_of, lent};
 
+use std::io;
+use std::io::Write;
+
 // 256 calls.
 const BLOCK: usize = 49152;
 
@@ -36,46 +39,55 @@ fn replay(buf: &mut [u8], n: usize, table: &mut [i16], store: &mut [i16])
     }
 }
 
-// Reads a block of calls and writes their answers. A write that fails ends the replay.
-fn block(buf: &mut [u8], table: &mut [i16], store: &mut [i16]) -> Next {
-    let got = io::read_full(0, buf);
+// Reads a block of calls and writes their answers.
+fn block(
+    rt: &HostRuntime,
+    buf: &mut [u8],
+    table: &mut [i16],
+    store: &mut [i16],
+) -> io::Result<Next> {
+    let got = wire::streams::read_full(&mut rt.stdin(), buf)?;
     let n = got / 192;
     let whole = 192 * n;
     replay(buf, n, table, store);
-    let written = io::write_all(1, &buf[..whole]);
+    rt.stdout().write_all(&buf[..whole])?;
     if whole < got {
-        Next::Short
+        Ok(Next::Short)
     } else if got < buf.len() {
-        Next::Nothing
-    } else if written {
-        Next::Block
+        Ok(Next::Nothing)
     } else {
-        Next::Nothing
+        Ok(Next::Block)
     }
 }
 
 // A proved loop has to end, and nothing says that the input does: the turns are counted down from a number that no run uses up.
-fn blocks(buf: &mut [u8], table: &mut [i16], store: &mut [i16]) {
+fn blocks(
+    rt: &HostRuntime,
+    buf: &mut [u8],
+    table: &mut [i16],
+    store: &mut [i16],
+) -> io::Result<()> {
     let mut turns = u64::MAX;
     while 0 < turns {
-        match block(buf, table, store) {
+        match block(rt, buf, table, store)? {
             Next::Block => {
                 turns -= 1;
             }
             Next::Nothing => {
-                return;
+                return Ok(());
             }
             Next::Short => {
-                io::write_all(2, b"the input ends within a call\n");
-                return;
+                return rt.stderr().write_all(b"the input ends within a call\n");
             }
         }
     }
+    Ok(())
 }
 
-fn main() {
+// A read or a write that fails ends the replay with its error.
+fn main(rt: HostRuntime) -> io::Result<()> {
     let mut table = [0i16; 1025];
     let mut store = [0i16; 18593];
     let mut buf = [0u8; BLOCK];
-    blocks(&mut buf, &mut table, &mut store);
+    blocks(&rt, &mut buf, &mut table, &mut store)
 }

@@ -84,6 +84,6 @@ pub(crate) fn replace(
     let t = turn(p[0], k, &p, table, acc, store, soft, input);
     let a = t.told;
     let bytes = wire::packed(&a);
-    bytes::copy(&bytes, &mut buf[at..]);
+    wire::streams::put(&bytes, buf, at);
     t.kept
 }

@@ -14,6 +14,8 @@ ghost use Rattle.receiver_replay.specs.Calls.{all};
 ghost use Rattle.receiver_replay.specs.Replay.{replayed, left_of};
 
 use receiver_calls::kept::Kept;
+use std::io;
+use std::io::Write;
 use sync_step::{Event, Events};
 
 // 256 calls.
@@ -58,20 +60,19 @@ struct Left {
     next: Next,
 }
 
-fn next_of(got: usize, whole: usize, all: usize, written: bool) -> Next {
+fn next_of(got: usize, whole: usize, all: usize) -> Next {
     if whole < got {
         Next::Short
     } else if got < all {
         Next::Nothing
-    } else if written {
-        Next::Block
     } else {
-        Next::Nothing
+        Next::Block
     }
 }
 
-// Reads a block of calls and writes their answers. A write that fails ends the replay.
+// Reads a block of calls and writes their answers.
 fn block(
+    rt: &HostRuntime,
     k: Kept,
     buf: &mut [u8],
     table: &mut [i16],
@@ -79,20 +80,21 @@ fn block(
     store: &mut [i16],
     soft: &mut [i8],
     input: &mut [i8],
-) -> Left {
-    let got = io::read_full(0, buf);
+) -> io::Result<Left> {
+    let got = wire::streams::read_full(&mut rt.stdin(), buf)?;
     let n = got / 192;
     let whole = 192 * n;
     let s = replay(k, buf, n, table, acc, store, soft, input);
-    let written = io::write_all(1, &buf[..whole]);
-    Left {
+    rt.stdout().write_all(&buf[..whole])?;
+    Ok(Left {
         kept: s,
-        next: next_of(got, whole, buf.len(), written),
-    }
+        next: next_of(got, whole, buf.len()),
+    })
 }
 
 // A proved loop has to end, and nothing says that the input does: the turns are counted down from a number that no run uses up.
 fn blocks(
+    rt: &HostRuntime,
     k: Kept,
     buf: &mut [u8],
     table: &mut [i16],
@@ -100,11 +102,11 @@ fn blocks(
     store: &mut [i16],
     soft: &mut [i8],
     input: &mut [i8],
-) {
+) -> io::Result<()> {
     let mut s = k;
     let mut turns = u64::MAX;
     while 0 < turns {
-        let l = block(s, buf, table, acc, store, soft, input);
+        let l = block(rt, s, buf, table, acc, store, soft, input)?;
         s = l.kept;
         let n = l.next;
         match n {
@@ -112,17 +114,18 @@ fn blocks(
                 turns -= 1;
             }
             Next::Nothing => {
-                return;
+                return Ok(());
             }
             Next::Short => {
-                io::write_all(2, b"the input ends within a call\n");
-                return;
+                return rt.stderr().write_all(b"the input ends within a call\n");
             }
         }
     }
+    Ok(())
 }
 
-fn main() {
+// A read or a write that fails ends the replay with its error.
+fn main(rt: HostRuntime) -> io::Result<()> {
     let mut buf = [0u8; BLOCK];
     let mut table = [0i16; 1025];
     let mut acc = [0u32; 9297];
@@ -144,6 +147,6 @@ fn main() {
         },
     };
     blocks(
-        k, &mut buf, &mut table, &mut acc, &mut store, &mut soft, &mut input,
-    );
+        &rt, k, &mut buf, &mut table, &mut acc, &mut store, &mut soft, &mut input,
+    )
 }

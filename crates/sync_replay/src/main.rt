@@ -19,9 +19,11 @@ mod given;
 mod mixing;
 mod told;
 
-ghost use Rattle.std.specs.Prelude.{◌≡◌, ◌+◌, ◌*◌, ◌≤◌, length};
+ghost use Rattle.std.specs.Prelude.{◌≡◌, ◌+◌, ◌*◌, ◌≤◌, IfOk, length};
 
 use desk::Desk;
+use std::io;
+use std::io::Write;
 
 // What a block of input leaves to do.
 #[derive(Clone, Copy)]
@@ -75,70 +77,78 @@ fn call(d: Desk, kind: u64, n: u64, v: u64, p: &mut [u64; 192], acc: &mut [u32])
 }
 
 // Where the next answer goes: what stands before it is written if there is no room.
-fn room(used: usize, out: &[u8]) -> usize
+fn room(rt: &HostRuntime, used: usize, out: &[u8]) -> io::Result<usize>
     requires { (length out.now ≡ 65536) × (used ≤ 65536) }
-    ensures { result + 320 ≤ 65536 }
+    ensures { IfOk result (λ at. at + 320 ≤ 65536) }
 {
     if used <= 65216 {
-        used
+        Ok(used)
     } else {
-        io::write_all(1, &out[..used]);
-        0
+        rt.stdout().write_all(&out[..used])?;
+        Ok(0)
     }
 }
 
-fn tell(d: Desk, used: usize, out: &mut [u8]) -> usize
+fn tell(rt: &HostRuntime, d: Desk, used: usize, out: &mut [u8]) -> io::Result<usize>
     requires { (length out.old ≡ 65536) × (used ≤ 65536) }
-    ensures { result ≤ 65536 }
+    ensures { IfOk result (λ n. n ≤ 65536) }
 {
     let t = d.told;
     let bytes = told::packed(&t);
-    let at = room(used, out);
-    bytes::copy(&bytes, &mut out[at..]);
-    at + 320
+    let at = room(rt, used, out)?;
+    wire::streams::put(&bytes, out, at);
+    Ok(at + 320)
 }
 
 // One call: its kind in the lowest byte, n in the next three, v in the upper half.
-fn one_call(t: Turn, c: u64, p: &mut [u64; 192], acc: &mut [u32], out: &mut [u8]) -> Turn
+fn one_call(
+    rt: &HostRuntime,
+    t: Turn,
+    c: u64,
+    p: &mut [u64; 192],
+    acc: &mut [u32],
+    out: &mut [u8],
+) -> io::Result<Turn>
     requires { (length out.old ≡ 65536) × (t.used ≤ 65536) }
-    ensures { result.used ≤ 65536 }
+    ensures { IfOk result (λ t. t.used ≤ 65536) }
 {
     let d = t.desk;
     let kind = c % 0x100;
     let n = c / 0x100 % 0x100_0000;
     let v = c / 0x1_0000_0000;
     if kind == 6 {
-        Turn {
+        Ok(Turn {
             desk: d,
-            used: tell(d, t.used, out),
-        }
+            used: tell(rt, d, t.used, out)?,
+        })
     } else {
-        Turn {
+        Ok(Turn {
             desk: call(d, kind, n, v, p, acc),
             used: t.used,
-        }
+        })
     }
 }
 
 // The first n calls of a block.
 fn replay(
+    rt: &HostRuntime,
     d: Desk,
     buf: &[u8],
     n: usize,
     p: &mut [u64; 192],
     acc: &mut [u32],
     out: &mut [u8],
-) -> Turn
+) -> io::Result<Turn>
     requires { (8 * n ≤ length buf.now) × (length out.old ≡ 65536) }
-    ensures { result.used ≤ 65536 }
+    ensures { IfOk result (λ t. t.used ≤ 65536) }
 {
     let mut t = Turn { desk: d, used: 0 };
     let mut i: usize = 0;
     while i < n {
-        t = one_call(t, wire::ranged::word(buf, 8 * i), p, acc, out);
+        t = one_call(rt, t, wire::ranged::word(buf, 8 * i), p, acc, out)?;
         i += 1;
     }
-    t
+    Ok(t)
 }
 
 // What a block leaves: the desk, and what is to be done.
@@ -148,42 +158,54 @@ struct Left {
     next: Next,
 }
 
-fn next_of(got: usize, whole: usize, all: usize, written: bool) -> Next {
+fn next_of(got: usize, whole: usize, all: usize) -> Next {
     if whole < got {
         Next::Short
     } else if got < all {
         Next::Nothing
-    } else if written {
-        Next::Block
     } else {
-        Next::Nothing
+        Next::Block
     }
 }
 
-// Reads a block of calls and writes what they tell. A write that fails ends the replay.
-fn block(d: Desk, buf: &mut [u8], p: &mut [u64; 192], acc: &mut [u32], out: &mut [u8]) -> Left
+// Reads a block of calls and writes what they tell.
+fn block(
+    rt: &HostRuntime,
+    d: Desk,
+    buf: &mut [u8],
+    p: &mut [u64; 192],
+    acc: &mut [u32],
+    out: &mut [u8],
+) -> io::Result<Left>
     requires { length out.old ≡ 65536 }
 {
-    let got = io::read_full(0, buf);
+    let got = wire::streams::read_full(&mut rt.stdin(), buf)?;
     let n = got / 8;
-    let t = replay(d, buf, n, p, acc, out);
+    let t = replay(rt, d, buf, n, p, acc, out)?;
     let k = t.desk;
     let used = t.used;
-    let written = io::write_all(1, &out[..used]);
-    Left {
+    rt.stdout().write_all(&out[..used])?;
+    Ok(Left {
         desk: k,
-        next: next_of(got, 8 * n, buf.len(), written),
-    }
+        next: next_of(got, 8 * n, buf.len()),
+    })
 }
 
 // A proved loop has to end, and nothing says that the input does: the turns are counted down from a number that no run uses up.
-fn blocks(d: Desk, buf: &mut [u8], p: &mut [u64; 192], acc: &mut [u32], out: &mut [u8])
+fn blocks(
+    rt: &HostRuntime,
+    d: Desk,
+    buf: &mut [u8],
+    p: &mut [u64; 192],
+    acc: &mut [u32],
+    out: &mut [u8],
+) -> io::Result<()>
     requires { length out.old ≡ 65536 }
 {
     let mut k = d;
     let mut turns = u64::MAX;
     while 0 < turns {
-        let l = block(k, buf, p, acc, out);
+        let l = block(rt, k, buf, p, acc, out)?;
         k = l.desk;
         let n = l.next;
         match n {
@@ -191,22 +213,23 @@ fn blocks(d: Desk, buf: &mut [u8], p: &mut [u64; 192], acc: &mut [u32], out: &mu
                 turns -= 1;
             }
             Next::Nothing => {
-                return;
+                return Ok(());
             }
             Next::Short => {
-                io::write_all(2, b"the input ends within a call\n");
-                return;
+                return rt.stderr().write_all(b"the input ends within a call\n");
             }
         }
     }
+    Ok(())
 }
 
 // One accumulator more than a sync takes, so that too many can be lent.
-fn main() {
+// A read or a write that fails ends the replay with its error.
+fn main(rt: HostRuntime) -> io::Result<()> {
     let mut p = [0u64; 192];
     let mut acc = [0u32; 9297];
-    let mut buf = io::large_buffer();
-    let mut out = io::large_buffer();
+    let mut buf = [0u8; 65536];
+    let mut out = [0u8; 65536];
     let a = sync::new(0, &mut acc);
     let s = a.sync;
     let d = Desk {
@@ -215,5 +238,5 @@ fn main() {
         s: [1i8; 48],
         told: [0u64; 40],
     };
-    blocks(d, &mut buf, &mut p, &mut acc, &mut out);
+    blocks(&rt, d, &mut buf, &mut p, &mut acc, &mut out)
 }

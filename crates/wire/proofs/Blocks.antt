@@ -19,6 +19,14 @@ put_part m l a at k n h e =
     ∙ ap (λ (r : List ℕ). take m a ++ r) (sym (drop-append-le m (take k d) (drop k d) long) ∙ ap (λ (r : List ℕ). drop m r) (take-append-drop k d) ∙ drop-drop m at l))
     ∙ sym (append_assoc (take at l) (take m a) (drop (at + m) l)))
 
+-- all from a place on
+pub from_on : (at : ℕ) (l : List ℕ) → take (length l - at) (drop at l) ≡ drop at l
+from_on at l = take_all (length l - at) (drop at l) (omega (arith, length-drop at l))
+
+-- .. by `put`
+pub put_all : (m : ℕ) (l a b r : List ℕ) (at : ℕ) → r ≡ paste l at a (length a) → a ≡ b → length b ≡ m → r ≡ paste l at b m
+put_all m l a b r at h e n = rw (h, e, n)
+
 module _ {S : Type 0} (m : ℕ) (answer : S → List ℕ → List ℕ) (after : S → List ℕ → S) (whole : (d : S) (s : List ℕ) → length (answer d s) ≡ m) where
   -- what is replaced up to `at`, then the answers to the n calls that are left; and what all leave
   abbrev pub so_far : ℕ → S → List ℕ → ℕ → List ℕ

@@ -1,4 +1,5 @@
 -- `eq_calls::other` meets its contract. Assumes nothing.
+use native.Mathlib.Omega.{arith}
 use Rattle.eq_calls.specs.Turns.{turn_of}
 use mathlib.Core.Path.{◌∙◌}
 use Rattle.eq_calls.proofs.Laws.{turn_none}
@@ -34,4 +35,4 @@ unfolding turn_of
 returns-in-15 c = rw (c.in-15.is, c.solve.ensures)
 
 pub returns-in_default : goal.returns-in_default
-returns-in_default c = c.same.ensures ∙ turn_none c.args.op c.args.p.now c.args.k c.requires c.in-9.rest
+returns-in_default c = c.same.ensures ∙ turn_none c.args.op c.args.p.now c.args.k (omega arith)

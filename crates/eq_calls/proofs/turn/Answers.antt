@@ -1,11 +1,11 @@
 -- `eq_calls::turn` meets its contract. Assumes nothing.
+use native.Mathlib.Omega.{arith}
 use Rattle.eq_calls.specs.Turns.{turn_of}
-use Rattle.wire.proofs.Laws.{past}
 use borrow.Author.Rules.{rules}
 use Rattle.eq_calls.proofs.turn.Goals as goal
 
 pub other-requires : goal.other-requires
-other-requires c = past 9 _ c.in-0.rest
+other-requires c = omega arith
 
 pub returns-in-0 : goal.returns-in-0
 unfolding turn_of

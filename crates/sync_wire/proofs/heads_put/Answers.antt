@@ -5,4 +5,4 @@ use Rattle.sync_wire.proofs.heads_put.Goals as goal
 
 pub returns : goal.returns
 unfolding heads_put
-returns c = rw (c.course_at-c.ensures, c.Stage-at.ensures)
+returns c = rw (c.course_at-c.ensures, c.stage_at-s.ensures)

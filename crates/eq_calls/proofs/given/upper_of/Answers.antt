@@ -8,6 +8,7 @@ use mathlib.Core.Path.{◌∙◌, ◌≡◌, refl}
 use native.Mathlib.Omega.{arith}
 use Rattle.eq_calls.specs.Given.{upper_entry, upper_of}
 use mir.Facts.{to_z-of_z}
+use mir.Syntax.{w64}
 use borrow.Author.Rules.{rules}
 use Rattle.eq_calls.proofs.given.upper_of.Goals as goal
 
@@ -19,7 +20,7 @@ pub loop-j-preserved : goal.loop-j-preserved
 loop-j-preserved c =
     let s = c.args in
     let ys = c.no_upper-t.result in
-    (omega arith, rw c.loop-j.invariant.1 (firsts-step (upper_entry s.r.now s.group s.v.now) ys c.loop-j.j _ (to_z-of_z (record { sfits = c.upper_entry.type_inv }) ∙ c.upper_entry.ensures) (omega (arith, c.no_upper-t.ensures))))
+    (omega arith, rw c.loop-j.invariant.1 (firsts-step (upper_entry s.r.now s.group s.v.now) ys c.loop-j.j _ (to_z-of_z {w = w64} (record { sfits = c.upper_entry.type_inv }) ∙ c.upper_entry.ensures) (omega (arith, c.no_upper-t.ensures))))
 
 pub returns : goal.returns
 unfolding upper_of

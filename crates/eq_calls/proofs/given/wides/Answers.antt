@@ -9,6 +9,7 @@ use native.Mathlib.Omega.{arith}
 use Rattle.fields.specs.Fields.{signed64}
 use Rattle.eq_calls.specs.Given.{wides_of}
 use mir.Facts.{to_z-of_z}
+use mir.Syntax.{w64}
 use borrow.Author.Rules.{rules}
 use Rattle.eq_calls.proofs.given.wides.Goals as goal
 
@@ -20,7 +21,7 @@ pub loop-k-preserved : goal.loop-k-preserved
 loop-k-preserved c =
     let s = c.args in
     let ys = c.no_wides-t.result in
-    (omega arith, rw c.loop-k.invariant.1 (firsts-step (λ (k : ℕ). signed64 s.p.now (k + 2)) ys c.loop-k.k _ (to_z-of_z (record { sfits = c.of_bits.type_inv }) ∙ c.of_bits.ensures) (omega (arith, c.no_wides-t.ensures))))
+    (omega arith, rw c.loop-k.invariant.1 (firsts-step (λ (k : ℕ). signed64 s.p.now (k + 2)) ys c.loop-k.k _ (to_z-of_z {w = w64} (record { sfits = c.of_bits.type_inv }) ∙ c.of_bits.ensures) (omega (arith, c.no_wides-t.ensures))))
 
 pub returns : goal.returns
 unfolding wides_of

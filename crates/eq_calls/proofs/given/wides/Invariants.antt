@@ -12,7 +12,7 @@ use borrow.Author.Rules.{rules}
 use Rattle.eq_calls.proofs.given.wides.Given as goal
 
 abbrev pub invariant-loop-k : goal.invariant-loop-k
-invariant-loop-k l = (l.k ≤ 22) × (l.t ≡ firsts (λ (l.k : ℕ). signed64 l.p (l.k + 2)) l.k ++ drop l.k l.initial.t)
+invariant-loop-k l = (l.k ≤ 22) × (l.t ≡ firsts (λ (k : ℕ). signed64 l.p (k + 2)) l.k ++ drop l.k l.initial.t)
 
 abbrev pub decreases-loop-k : goal.decreases-loop-k
 decreases-loop-k l = 22 - l.k

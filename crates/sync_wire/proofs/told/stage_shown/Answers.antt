@@ -13,19 +13,17 @@ returns-in-Before c = rw c.in-Before.is
 pub returns-in-First : goal.returns-in-First
 unfolding stage_shown
 returns-in-First c =
-    let s = c.s-1 in
-    let r = s.given.0.0 in
+    let r = c.in-First.r in
     let a : SFits w32 r.both.f.re = search rules in
     let b : SFits w32 r.both.f.im = search rules in
     let d : SFits w32 r.both.s.re = search rules in
     let e : SFits w32 r.both.s.im = search rules in
-    rw (s.given.1, rw (to_z-of_z e) at c.bits32-in-First-3.ensures, rw (to_z-of_z d) at c.bits32-in-First-2.ensures, rw (to_z-of_z b) at c.bits32-in-First.ensures, rw (to_z-of_z a) at c.bits32.ensures)
+    rw (c.in-First.is, rw (to_z-of_z e) at c.bits32-in-First-3.ensures, rw (to_z-of_z d) at c.bits32-in-First-2.ensures, rw (to_z-of_z b) at c.bits32-in-First.ensures, rw (to_z-of_z a) at c.bits32.ensures)
 
 pub returns-in-Known : goal.returns-in-Known
 unfolding stage_shown
 returns-in-Known c =
-    let s = c.s-in-Known-1 in
-    let p = s.given.0.0 in
+    let p = c.in-Known.p in
     let a : SFits w32 p.last.re = search rules in
     let b : SFits w32 p.last.im = search rules in
-    rw (s.given.1, rw (to_z-of_z b) at c.bits32-in-Known-2.ensures, rw (to_z-of_z a) at c.bits32-in-Known.ensures, c.flag-in-Known.ensures, c.flag.ensures)
+    rw (c.in-Known.is, rw (to_z-of_z b) at c.bits32-in-Known-2.ensures, rw (to_z-of_z a) at c.bits32-in-Known.ensures, c.flag-in-Known.ensures, c.flag.ensures)

@@ -1,0 +1,24 @@
+-- `demap_replay::call::replace` meets its contract. Assumes nothing.
+use Prim.Native.Nat.{ℕ, ◌-◌}
+use Rattle.demap_replay.proofs.Laws.{length_answer}
+use Rattle.demap_replay.specs.Replay.{answer_bytes, after, desk}
+use Rattle.wire.proofs.Blocks.{put_all, from_on}
+use borrow.Author.Rules.{rules}
+use lib.ListN.{length, take, drop, length-drop}
+use lib.Seq.{take_all}
+use mathlib.Core.List.{List, ◌++◌}
+use mathlib.Core.Path.{◌≡◌, refl, ap, ◌∙◌}
+use native.Mathlib.Omega.{arith}
+use Rattle.demap_replay.proofs.call.replace.Goals as goal
+
+pub returns : goal.returns
+unfolding answer_bytes after
+returns c =
+    let l : List ℕ = c.args.buf.now in
+    let at : ℕ = c.args.at in
+    let d = desk c.args.k c.args.learned.now c.args.nominal.now in
+    let n = rw (from_on at l) at c.numbers-p.ensures in
+    let g = rw n at c.turn-t.ensures in
+    let told = g.0 in
+    let e : c.packed-bytes.result ≡ answer_bytes d (drop at l) = rw told at c.packed-bytes.ensures in
+    (put_all 192 l _ (answer_bytes d (drop at l)) _ at c.put.ensures e (length_answer d (drop at l)), rw (g.0, g.1, g.2))

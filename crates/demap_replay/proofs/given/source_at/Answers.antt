@@ -1,0 +1,15 @@
+-- `demap_replay::given::source_at` meets its contract. Assumes nothing.
+use Rattle.demap_replay.specs.Given.{source_of}
+use Rattle.laws.specs.Choice.{if_yes, if_no}
+use borrow.Author.Rules.{rules}
+use borrow.Author.Tests.{eq-eqb, ne_eqb}
+use mathlib.Core.Path.{sym}
+use Rattle.demap_replay.proofs.given.source_at.Goals as goal
+
+pub returns-then-p-eq0 : goal.returns-then-p-eq0
+unfolding source_of
+returns-then-p-eq0 c = sym (if_yes _ _ _ (eq-eqb _ _ c.if-p-eq0.true))
+
+pub returns-else-p-eq0 : goal.returns-else-p-eq0
+unfolding source_of
+returns-else-p-eq0 c = rw c.low32.ensures (sym (if_no _ _ _ (ne_eqb _ _ c.if-p-eq0.false)))

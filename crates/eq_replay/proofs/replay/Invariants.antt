@@ -1,0 +1,16 @@
+use mathlib.Core.Path.{◌≡◌, refl, sym, ◌∙◌}
+use Prim.Native.Nat.{◌+◌, ◌-◌, ◌*◌, ◌≤◌}
+use native.Mathlib.Omega.{arith}
+use lib.ListN.{length}
+use Rattle.wire.proofs.Blocks.{so_far, left_from, replay-more, replay-none, replay-all}
+use Rattle.eq_replay.specs.Replay.{replayed, left_of, answer_bytes, after}
+use Rattle.eq_replay.proofs.Laws.{length_answer}
+use Rattle.eq_replay.proofs.replay.Given as goal
+
+abbrev pub invariant-loop-i : goal.invariant-loop-i
+invariant-loop-i l = (l.i ≤ l.n)
+    × (so_far 192 answer_bytes after length_answer (l.n - l.i) l.s l.buf (192 * l.i) ≡ replayed l.initial.s l.n l.initial.buf)
+    × (left_from 192 answer_bytes after length_answer (l.n - l.i) l.s l.buf (192 * l.i) ≡ left_of l.initial.s l.n l.initial.buf)
+
+abbrev pub decreases-loop-i : goal.decreases-loop-i
+decreases-loop-i l = l.n - l.i

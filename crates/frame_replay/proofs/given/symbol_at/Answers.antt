@@ -1,0 +1,9 @@
+-- `frame_replay::given::symbol_at` meets its contract. Assumes nothing.
+use Rattle.frame_replay.specs.Given.{symbol_of}
+use mir.Facts.{to_z-of_z}
+use borrow.Author.Rules.{rules}
+use Rattle.frame_replay.proofs.given.symbol_at.Goals as goal
+
+pub returns : goal.returns
+unfolding symbol_of
+returns c = rw (to_z-of_z (record { sfits = c.signed16.type_inv }), to_z-of_z (record { sfits = c.signed16-2.type_inv }), c.signed16.ensures, c.signed16-2.ensures)

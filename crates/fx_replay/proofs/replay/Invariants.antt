@@ -1,0 +1,14 @@
+use mathlib.Core.Path.{◌≡◌, refl, sym, ◌∙◌}
+use Prim.Native.Nat.{◌+◌, ◌-◌, ◌*◌, ◌≤◌}
+use native.Mathlib.Omega.{arith}
+use lib.ListN.{length}
+use Rattle.fx_replay.specs.Replay.{replayed, answer_bytes, same}
+use Rattle.fx_replay.proofs.Laws.{length_answer}
+use Rattle.wire.proofs.Blocks.{so_far, replay-more, replay-none, replay-all}
+use Rattle.fx_replay.proofs.replay.Given as goal
+
+abbrev pub invariant-loop-i : goal.invariant-loop-i
+invariant-loop-i l = (l.i ≤ l.n) × (so_far 24 answer_bytes same length_answer (l.n - l.i) l.table l.buf (24 * l.i) ≡ replayed l.table l.n l.initial.buf)
+
+abbrev pub decreases-loop-i : goal.decreases-loop-i
+decreases-loop-i l = l.n - l.i

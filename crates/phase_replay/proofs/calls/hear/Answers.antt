@@ -1,0 +1,8 @@
+-- `phase_replay::calls::hear` meets its contract. Assumes nothing.
+use Rattle.phase_replay.specs.Calls.{hear_call}
+use borrow.Author.Rules.{rules}
+use Rattle.phase_replay.proofs.calls.hear.Goals as goal
+
+pub returns : goal.returns
+unfolding hear_call
+returns c = rw (c.nco.ensures, c.flag.ensures, c.head-r.ensures, c.head_at-h.ensures, c.nco_at-n.ensures)

@@ -1,0 +1,8 @@
+-- `phase_replay::calls::restart` meets its contract. Assumes nothing.
+use Rattle.phase_replay.specs.Calls.{restart_call}
+use borrow.Author.Rules.{rules}
+use Rattle.phase_replay.proofs.calls.restart.Goals as goal
+
+pub returns : goal.returns
+unfolding restart_call
+returns c = rw (c.phase.ensures, c.restart-r.ensures, c.phase_at-s.ensures)

@@ -1,0 +1,10 @@
+use Rattle.std.proofs.Common.{◌≡◌, ◌-◌, ◌≤◌, length, refl, ◌∙◌, add-one, arith, to_z-of_z, w16, to_z, of_z, rules}
+use Rattle.sync_replay.proofs.Laws.{pushes_more, pushes-none, st_eq}
+use Rattle.sync_replay.specs.Desk.{pushes_of, st}
+use Rattle.sync_replay.proofs.desk.pushes.Given as goal
+
+abbrev pub invariant-loop-k : goal.invariant-loop-k
+invariant-loop-k l = (l.k ≤ l.n) × (st l.r l.acc ≡ pushes_of l.k l.i l.q (st l.initial.r l.initial.acc)) × (length l.acc ≡ length l.initial.acc)
+
+abbrev pub decreases-loop-k : goal.decreases-loop-k
+decreases-loop-k l = l.n - l.k

@@ -1,0 +1,11 @@
+use Rattle.std.proofs.Common.{◌≡◌, ◌-◌, ◌≤◌, [], ◌++◌, drop, refl, ◌∙◌, append-nil, arith, drop_of_length-le, to_z-of_z, rules}
+use Rattle.laws.proofs.Lists.{firsts-step}
+use Rattle.laws.specs.Ranges.{firsts}
+use Rattle.fields.specs.Fields.{one_at, ones_at}
+use Rattle.sync_replay.proofs.given.word.Given as goal
+
+abbrev pub invariant-loop-i : goal.invariant-loop-i
+invariant-loop-i l = (l.i ≤ 48) × (l.w ≡ firsts (one_at l.p l.k) l.i ++ drop l.i l.initial.w)
+
+abbrev pub decreases-loop-i : goal.decreases-loop-i
+decreases-loop-i l = 48 - l.i

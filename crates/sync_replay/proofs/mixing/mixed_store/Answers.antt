@@ -1,0 +1,14 @@
+-- `sync_replay::mixing::mixed_store` meets its contract. Assumes nothing.
+use Rattle.std.proofs.Common.{◌≡◌, ◌-◌, ◌≤◌, length, ◌∙◌, arith, rules}
+use Rattle.sync_replay.proofs.Laws.{mixed_more, mixed-none}
+use Rattle.sync_replay.specs.Mixing.{mixed_to}
+use Rattle.sync_replay.proofs.mixing.mixed_store.Goals as goal
+
+pub loop-k-init : goal.loop-k-init
+loop-k-init c = (omega arith, mixed-none _ _)
+
+pub loop-k-preserved : goal.loop-k-preserved
+loop-k-preserved c = (omega arith, c.mixed_level-r.ensures ∙ mixed_more _ _ _ _ c.loop-k.invariant.1)
+
+pub returns : goal.returns
+returns c = let e : c.loop-k.k ≡ length c.args.acc.now = omega arith in (rw e at c.loop-k.invariant.1)

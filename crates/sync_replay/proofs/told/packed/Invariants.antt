@@ -1,0 +1,13 @@
+use Rattle.std.proofs.Common.{◌≡◌, ◌-◌, ◌/◌, ◌%◌, ◌≤◌, [], ◌++◌, get_or, drop, refl, ◌∙◌, append-nil, arith, drop_of_length-le, rules}
+use Rattle.laws.proofs.Lists.{firsts-step}
+use Rattle.laws.specs.Ranges.{firsts}
+use Rattle.sync_replay.proofs.Laws.{byte_is}
+use Rattle.sync_replay.specs.Told.{packed_of}
+use Rattle.wire.specs.Wire.{byte_at}
+use Rattle.sync_replay.proofs.told.packed.Given as goal
+
+abbrev pub invariant-loop-i : goal.invariant-loop-i
+invariant-loop-i l = (l.i ≤ 320) × (l.t ≡ firsts (byte_at l.n) l.i ++ drop l.i l.initial.t)
+
+abbrev pub decreases-loop-i : goal.decreases-loop-i
+decreases-loop-i l = 320 - l.i
