@@ -1,7 +1,7 @@
 -- Laws of the lines' lengths. Assumes nothing.
-use Rattle.std.proofs.Common.{◌≡◌, ℕ, zero, suc, ◌+◌, ◌-◌, ◌*◌, ◌/◌, ◌%◌, ◌^◌, ◌<◌, ◌≤◌, true, false, eqb, ltb, List, [], ◌∷◌, ◌++◌, length, get_or, take, drop, ℤ, pos, negsuc, sym, refl, ap, ◌∙◌, subst, ap₂, arith, length-append, eq-eqb, le-leb}
-use Rattle.laws.proofs.Tests.{by_test, if_both, never}
-use Rattle.laws.specs.Choice.{when◌then◌else◌, if_yes, if_no}
+use Rattle.std.proofs.Common.{◌≡◌, ℕ, zero, suc, ◌+◌, ◌*◌, ◌/◌, ◌%◌, ◌≤◌, true, eqb, ltb, List, [], ◌∷◌, ◌++◌, length, get_or, ℤ, pos, negsuc, ap, ◌∙◌, subst, ap₂, arith, length-append, eq-eqb, le-leb}
+use Rattle.laws.proofs.Tests.{if_both}
+use Rattle.laws.specs.Choice.{if_yes}
 use Rattle.sync_heads.specs.declared.Head.{Head}
 use Rattle.sync_heads.specs.declared.Slot.{Slot}
 use Rattle.sync_heads.specs.declared.Slot.TheVariants.{Unknown, In}

@@ -1,10 +1,10 @@
 -- Laws of pages: a symbol with a line, one without, a page that goes on and one that stops. Assumes nothing.
-use Rattle.std.proofs.Common.{◌≡◌, ℕ, zero, suc, ◌+◌, ◌-◌, ◌%◌, ◌^◌, ◌<◌, ◌≤◌, min, Bool, true, false, ◌&&◌, ltb, leb, List, [], ◌∷◌, ◌++◌, length, take, drop, ℤ, sym, refl, ap, ◌∙◌, ap₂, arith, length-drop, drop_of_length-le, length-take, take_all, drop-drop, ltb-false, ltb-true, leb-false, leb-true}
+use Rattle.std.proofs.Common.{◌≡◌, ℕ, zero, suc, ◌+◌, ◌-◌, ◌%◌, ◌^◌, ◌<◌, ◌≤◌, min, Bool, true, false, ◌&&◌, ltb, leb, List, [], length, take, drop, ℤ, sym, refl, ap, ◌∙◌, ap₂, arith, length-drop, drop_of_length-le, length-take, take_all, drop-drop, ltb-false, ltb-true, leb-false, leb-true}
 use native.Mathlib.Nat.{min-eq_left, min-eq_right, min-le_left}
 use borrow.Author.Tests.{lt-leb}
 use lib.Seq.{drop-length}
 use Rattle.laws.proofs.Tests.{by_test, and_both, never}
-use Rattle.laws.specs.Choice.{when◌then◌else◌, if_yes, if_no}
+use Rattle.laws.specs.Choice.{if_yes, if_no}
 use Rattle.frame_map.specs.Map.{part_of}
 use Rattle.receiver_slot.specs.declared.AlignedRun.{AlignedRun}
 use Rattle.lines.specs.Lines.{soft_line}

@@ -1,6 +1,6 @@
 -- What an answer prints: document 01, "Capture": "Events come in order, then soft lines"; "`soft AT J` (position and slot index of a main symbol) and
 -- the values; last `end SYMBOLS` or `refused NUMBER`".
-use Rattle.std.specs.Prelude.{ℕ, zero, suc, ◌+◌, ◌*◌, ◌%◌, ◌^◌, Bool, true, false, ◌&&◌, List, [], ◌∷◌, ◌++◌, take, drop, ℤ, ◌==◌, nat_le}
+use Rattle.std.specs.Prelude.{ℕ, zero, suc, ◌+◌, ◌%◌, ◌^◌, Bool, true, false, ◌&&◌, List, [], ◌++◌, take, drop, ℤ, ◌==◌, nat_le}
 use Rattle.laws.specs.Choice.{when◌then◌else◌}
 use Rattle.sync_step.specs.declared.Events.{Events}
 use Rattle.frame_map.specs.declared.SlotPart.{SlotPart}

@@ -1,5 +1,5 @@
 -- How the answers of the entries on whole arrays cross to C. Refusal 0 is an accepted call.
-use Rattle.std.specs.Prelude.{ℕ, zero, suc, eqb}
+use Rattle.std.specs.Prelude.{ℕ, eqb}
 use Rattle.laws.specs.Choice.{when◌then◌else◌}
 use Rattle.frame_map.specs.declared.Referred.{Referred}
 use Rattle.frame_map.specs.declared.Referred.TheVariants.{Given, Refused as NotReferred}

@@ -1,8 +1,8 @@
 -- Laws of text in a buffer, and of numbers as text. Assumes nothing.
 use mathlib.Core.Bool.{true, false}
 use mathlib.Core.List.{List, [], ◌∷◌, ◌++◌, append_assoc}
-use mathlib.Core.Path.{◌≡◌, refl, sym, ap, ap₂, subst, ◌∙◌}
-use Prim.Native.Nat.{ℕ, zero, suc, ◌+◌, ◌-◌, ◌/◌, ◌%◌, ◌^◌, ◌≤◌, ◌<◌}
+use mathlib.Core.Path.{◌≡◌, refl, sym, ap, ap₂, ◌∙◌}
+use Prim.Native.Nat.{ℕ, suc, ◌+◌, ◌-◌, ◌≤◌, ◌<◌}
 use native.Mathlib.Nat.{add-zero}
 use native.Mathlib.Omega.{arith}
 use native.Mathlib.Numerals.{add-one}
@@ -16,7 +16,6 @@ use Rattle.laws.proofs.Tests.{by_test, never}
 use Rattle.laws.specs.Choice.{if_yes, if_no}
 use Rattle.lines.specs.Decimal.{decimal_of, signed_of}
 use Rattle.lines.specs.Place.{written, Wrote, room_refusal, printed_at, printed_into}
-use Rattle.lines.specs.declared.Printed.{Printed}
 use Rattle.lines.specs.Lines.{value_text, values_to, soft_refusal}
 
 -- ---- text

@@ -23,5 +23,5 @@ returns c =
     let Y = c.run-y in
     λ y.
     let b = and_both X.result.ok Y.result.ok y in
-    answer_left_lem 65536 a.es a.rs a.soft.now (room_at a.place) a.out.now E.new.1.0 E.result (drop X.result.v a.soft.now) (drop Y.result.v a.soft.now) X.result.place Y.result.place X.new.1.1.1.0 Y.new.1.1.1.0
-    (subst (λ (p : ℕ). Wrote a.out.now p (events_text a.es) E.new.1.0 E.result) R.ensures.0 E.ensures) (X.ensures.1 b.0) (Y.ensures.1 b.1)
+    answer_left_lem 65536 a.es a.rs a.soft.now (room_at a.place) a.out.now E.new.out E.result (drop X.result.v a.soft.now) (drop Y.result.v a.soft.now) X.result.place Y.result.place X.new.out Y.new.out
+    (subst (λ (p : ℕ). Wrote a.out.now p (events_text a.es) E.new.out E.result) R.ensures.0 E.ensures) (X.ensures.1 b.0) (Y.ensures.1 b.1)

@@ -17,12 +17,12 @@ pub loop-turns-preserved : goal.loop-turns-preserved
 loop-turns-preserved c =
     let h = c.loop-turns in
     let g = c.block-q in (
-      c.read-m.auto.0 ∙ h.invariant.0,
-      g.auto.1.1.0 ∙ h.invariant.1,
-      g.auto.1.1.1.1.1.1.0 ∙ h.invariant.2,
-      g.auto.1.1.1.1.1.1.1.0 ∙ h.invariant.3,
-      g.auto.1.1.1.1.1.1.1.1.0 ∙ h.invariant.4,
-      g.auto.1.1.1.1.1.1.1.1.1.0 ∙ h.invariant.5,
+      c.read-m.auto.buf ∙ h.invariant.0,
+      g.auto.signed ∙ h.invariant.1,
+      g.auto.acc ∙ h.invariant.2,
+      g.auto.store ∙ h.invariant.3,
+      g.auto.soft ∙ h.invariant.4,
+      g.auto.out ∙ h.invariant.5,
     )
 
 pub shape_of-buf : goal.shape_of-buf

@@ -13,14 +13,8 @@ use Rattle.bench_text.specs.Pages.{Paged, paged_by, page_of}
 use Rattle.bench_text.specs.declared.Page.{Page}
 use Rattle.bench_text.specs.Claims.{Sent, pages_from, run_on}
 use Rattle.bench_text.proofs.Theorems.{turn_last, turn_on}
+use Rattle.bench.proofs.run.Invariants.{page, led}
 use Rattle.bench.proofs.run.Goals as goal
-
-abbrev page : ℕ → List ℤ → ℕ → List ℕ → Paged
-page i vs to out = record { next = i; rest = vs; place = to; out = out }
-
--- the page that so many turns lead to
-abbrev led : ℕ → AlignedRun → Paged → Paged
-led k r p = (pages_from k r (record { sent = []; page = p })).page
 
 -- what `fill` leaves, as a page
 filled : (r : AlignedRun) (i u to : ℕ) (soft : List ℤ) (out : List ℕ) (p : Page) (after : List ℕ) →
@@ -48,11 +42,11 @@ loop-turns-preserved-then-n-i c =
     let L = c.loop-turns in
     let F = c.fill-p in
     let a = c.args in
-    let e = filled a.r L.i L.u L.to a.soft.now L.out F.result F.new.1.1.1.0 F.ensures.0 in
+    let e = filled a.r L.i L.u L.to a.soft.now L.out F.result F.new.out F.ensures.0 in
     let k = some_turn L.turns c.loop-turns-test.true in (
       F.ensures.1,
       search rules,
-      λ y. turn_last (L.turns - 1) a.r (page L.i (drop L.u a.soft.now) L.to L.out) (page F.result.i (drop F.result.v a.soft.now) F.result.place F.new.1.1.1.0) e c.if-n-i.true
+      λ y. turn_last (L.turns - 1) a.r (page L.i (drop L.u a.soft.now) L.to L.out) (page F.result.i (drop F.result.v a.soft.now) F.result.place F.new.out) e c.if-n-i.true
           ∙ ap (λ (n : ℕ). led n a.r (page L.i (drop L.u a.soft.now) L.to L.out)) (sym k) ∙ L.invariant.2 y,
       λ z. absurd (omega (arith, z)),
     )
@@ -62,11 +56,11 @@ loop-turns-preserved-then-ok c =
     let L = c.loop-turns in
     let F = c.fill-p in
     let a = c.args in
-    let e = filled a.r L.i L.u L.to a.soft.now L.out F.result F.new.1.1.1.0 F.ensures.0 in
+    let e = filled a.r L.i L.u L.to a.soft.now L.out F.result F.new.out F.ensures.0 in
     let k = some_turn L.turns c.loop-turns-test.true in (
       F.ensures.1,
       search rules,
-      λ y. turn_on (L.turns - 1) a.r (page L.i (drop L.u a.soft.now) L.to L.out) (page F.result.i (drop F.result.v a.soft.now) F.result.place F.new.1.1.1.0) e c.if-n-i.false
+      λ y. turn_on (L.turns - 1) a.r (page L.i (drop L.u a.soft.now) L.to L.out) (page F.result.i (drop F.result.v a.soft.now) F.result.place F.new.out) e c.if-n-i.false
           ∙ ap (λ (n : ℕ). led n a.r (page L.i (drop L.u a.soft.now) L.to L.out)) (sym k)
           ∙ L.invariant.2 (L.invariant.3 c.loop-turns-test.true),
       λ z. c.if-ok.true,

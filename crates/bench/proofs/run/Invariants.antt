@@ -14,6 +14,13 @@ use Rattle.bench_text.specs.Claims.{Sent, pages_from, run_on}
 use Rattle.bench_text.proofs.Theorems.{turn_last, turn_on}
 use Rattle.bench.proofs.run.Given as goal
 
+abbrev pub page : ℕ → List ℤ → ℕ → List ℕ → Paged
+page i vs to out = record { next = i; rest = vs; place = to; out = out }
+
+-- the page that so many turns lead to
+abbrev pub led : ℕ → AlignedRun → Paged → Paged
+led k r p = (pages_from k r (record { sent = []; page = p })).page
+
 abbrev pub invariant-loop-turns : goal.invariant-loop-turns
 invariant-loop-turns l = (l.u ≤ length l.soft) × (length l.out ≡ length l.initial.out) × (l.ok ≡ true → led l.turns l.r (page l.i (drop l.u l.soft) l.to l.out) ≡ led l.initial.turns l.r (page l.initial.i (drop l.initial.u l.soft) l.initial.to l.initial.out)) × (0 < l.turns → l.ok ≡ true)
 

@@ -1,6 +1,5 @@
 -- `c_api::sv_cos_sin_trunc` meets its contract. Assumes nothing.
 use mathlib.Core.Path.{ap, ◌∙◌}
-use borrow.Author.Rules.{rules}
 use Rattle.c_api.specs.Api.{phasor_numbers}
 use Rattle.c_api.proofs.sv_cos_sin_trunc.Goals as goal
 

@@ -1,6 +1,5 @@
 -- `c_api::sv_round_shift` meets its contract. Assumes nothing.
 use mathlib.Core.Path.{ap, ◌∙◌}
-use borrow.Author.Rules.{rules}
 use mir.Facts.{to_z-of_z}
 use Rattle.c_api.specs.Api.{number}
 use Rattle.c_api.proofs.sv_round_shift.Goals as goal

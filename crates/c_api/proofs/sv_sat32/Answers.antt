@@ -1,6 +1,5 @@
 -- `c_api::sv_sat32` meets its contract. Assumes nothing.
 use mathlib.Core.Path.{ap, ◌∙◌}
-use borrow.Author.Rules.{rules}
 use mir.Facts.{to_z-of_z}
 use Rattle.c_api.specs.Api.{number32}
 use Rattle.c_api.proofs.sv_sat32.Goals as goal

@@ -1,5 +1,4 @@
 -- `capture::contents` meets its contract. Assumes nothing.
-use borrow.Author.Rules.{rules}
 use Rattle.capture.specs.Contents.{entry_of, contents_fit, contents_of}
 use mathlib.Core.Bool.{false}
 use mathlib.Core.Path.{◌≡◌, refl, sym, ap}

@@ -1,5 +1,4 @@
 -- `capture::share` meets its contract. Assumes nothing.
-use borrow.Author.Rules.{rules}
 use Rattle.capture.specs.Blocks.{shared_of}
 use Rattle.capture.proofs.share.Goals as goal
 

@@ -1,15 +1,9 @@
-use borrow.Author.Rules.{rules}
-use mathlib.Core.List.{List, ◌++◌}
-use mathlib.Core.Path.{◌≡◌, refl, ap, ◌∙◌}
-use Prim.Native.Nat.{ℕ, ◌-◌, ◌≤◌, min}
-use native.Mathlib.Omega.{arith}
-use lib.IntN.{ℤ}
-use lib.ListN.{length, drop}
-use mir.Facts.{to_z-of_z}
-use Rattle.laws.proofs.Lists.{firsts-step, length-fill}
+use mathlib.Core.List.{◌++◌}
+use mathlib.Core.Path.{◌≡◌}
+use Prim.Native.Nat.{◌-◌, ◌≤◌}
+use lib.ListN.{drop}
 use Rattle.laws.specs.Ranges.{firsts}
-use Rattle.capture.specs.Bytes.{byte_at, signed_into}
-use Rattle.capture.proofs.Laws.{firsts-signed}
+use Rattle.capture.specs.Bytes.{byte_at}
 use Rattle.capture.proofs.symbols.Given as goal
 
 abbrev pub invariant-loop-i : goal.invariant-loop-i

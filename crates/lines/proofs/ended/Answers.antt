@@ -1,5 +1,4 @@
 -- `lines::ended` meets its contract. Assumes nothing.
-use borrow.Author.Rules.{rules}
 use Rattle.lines.specs.Lines.{end_line}
 use Rattle.lines.proofs.Laws.{then}
 use Rattle.lines.proofs.ended.Goals as goal

@@ -1,5 +1,4 @@
 -- `lines::head` meets its contract. Assumes nothing.
-use borrow.Author.Rules.{rules}
 use Rattle.lines.specs.Lines.{head_line}
 use Rattle.lines.proofs.Laws.{then}
 use Rattle.lines.proofs.head.Goals as goal

@@ -1,5 +1,4 @@
 -- `lines::letter` meets its contract. Assumes nothing.
-use borrow.Author.Rules.{rules}
 use Rattle.lines.specs.Lines.{letter_of}
 use Rattle.lines.proofs.letter.Goals as goal
 

@@ -1,5 +1,4 @@
 -- `lines::lost` meets its contract. Assumes nothing.
-use borrow.Author.Rules.{rules}
 use Rattle.lines.specs.Lines.{lost_line}
 use Rattle.lines.proofs.Laws.{then}
 use Rattle.lines.proofs.lost.Goals as goal

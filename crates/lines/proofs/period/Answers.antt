@@ -1,5 +1,4 @@
 -- `lines::period` meets its contract. Assumes nothing.
-use borrow.Author.Rules.{rules}
 use Rattle.lines.specs.Lines.{period_line}
 use Rattle.lines.proofs.Laws.{then}
 use Rattle.lines.proofs.period.Goals as goal

@@ -1,5 +1,4 @@
 -- `lines::refusal` meets its contract. Assumes nothing.
-use borrow.Author.Rules.{rules}
 use Rattle.lines.specs.Lines.{refused_line}
 use Rattle.lines.proofs.Laws.{then}
 use Rattle.lines.proofs.refusal.Goals as goal

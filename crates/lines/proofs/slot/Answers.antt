@@ -1,5 +1,4 @@
 -- `lines::slot` meets its contract. Assumes nothing.
-use borrow.Author.Rules.{rules}
 use Rattle.lines.specs.Lines.{slot_text}
 use Rattle.lines.proofs.Laws.{then}
 use Rattle.lines.proofs.slot.Goals as goal

@@ -1,5 +1,4 @@
 -- `lines::told` meets its contract. Assumes nothing.
-use borrow.Author.Rules.{rules}
 use native.Mathlib.Omega.{arith}
 use Rattle.lines.specs.Lines.{event_line}
 use Rattle.lines.proofs.Laws.{nothing}

@@ -1,5 +1,4 @@
 -- `lines::written` meets its contract. Assumes nothing.
-use borrow.Author.Rules.{rules}
 use Rattle.lines.specs.Lines.{soft_line}
 use Rattle.lines.proofs.Laws.{then}
 use Rattle.lines.proofs.written.Goals as goal

@@ -5,12 +5,12 @@ use borrow.Rule.Slice.PartMut.{take_put}
 use borrow.Author.Rules.{rules}
 use Rattle.bench.proofs.system.read_on.Goals as goal
 
-pub returns-then-got-lt0 : goal.returns-then-got-lt0
-returns-then-got-lt0 c =
+pub returns-in-Ok : goal.returns-in-Ok
+returns-in-Ok c =
     let a = c.args in
-    (search rules, take_put a.done (length a.buf.now - a.done) a.buf.now c.read-got.new.1.0 c.requires)
+    (search (rules, c.in-Ok.ensures.bound.0), take_put a.done (length a.buf.now - a.done) a.buf.now c.read.new.buf c.requires)
 
-pub returns-else-got-lt0 : goal.returns-else-got-lt0
-returns-else-got-lt0 c =
+pub returns-in-Err : goal.returns-in-Err
+returns-in-Err c =
     let a = c.args in
-    (search rules, take_put a.done (length a.buf.now - a.done) a.buf.now c.read-got.new.1.0 c.requires)
+    (search rules, take_put a.done (length a.buf.now - a.done) a.buf.now c.read.new.buf c.requires)

@@ -5,8 +5,8 @@ use borrow.Author.Tests.{eqb-true}
 use Rattle.laws.proofs.Tests.{never}
 use Rattle.bench.proofs.system.write_on.Goals as goal
 
-pub returns-then-put-lt0 : goal.returns-then-put-lt0
-returns-then-put-lt0 c = (search rules, λ y. absurd (never (sym y)))
+pub returns-in-Err : goal.returns-in-Err
+returns-in-Err c = (search rules, λ y. absurd (never (sym y)))
 
 pub returns-then-put-eq0 : goal.returns-then-put-eq0
 returns-then-put-eq0 c = (search rules, λ y. absurd (never (sym y)))

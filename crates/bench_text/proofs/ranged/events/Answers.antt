@@ -2,7 +2,6 @@
 use Rattle.lines.specs.Lines.{event_line}
 use Rattle.bench_text.specs.Bench.{events_text}
 use Rattle.bench_text.proofs.Laws.{event_short, three-wrote}
-use Rattle.std.proofs.Common.{rules}
 use Rattle.bench_text.proofs.ranged.events.Goals as goal
 
 pub returns : goal.returns

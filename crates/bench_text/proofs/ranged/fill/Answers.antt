@@ -1,6 +1,6 @@
 -- The loop has written a page. Assumes nothing.
-use Rattle.std.proofs.Common.{◌≡◌, ℕ, ◌+◌, ◌-◌, ◌<◌, ◌≤◌, true, false, leb, length, sym, refl, ◌∙◌, subst, ap₂, arith, rules, leb-true}
-use Rattle.bench_text.specs.Pages.{more_of, page_of, paged_by}
+use Rattle.std.proofs.Common.{◌≡◌, ℕ, ◌+◌, ◌<◌, true, false, leb, length, sym, refl, ◌∙◌, subst, ap₂, arith, rules, leb-true}
+use Rattle.bench_text.specs.Pages.{more_of}
 use Rattle.bench_text.proofs.Pages.{more_on, page-next, page-end}
 use Rattle.bench_text.proofs.ranged.fill.Goals as goal
 

@@ -1,6 +1,5 @@
-use Rattle.std.proofs.Common.{◌≡◌, ℕ, ◌+◌, ◌-◌, ◌<◌, ◌≤◌, true, false, leb, length, sym, refl, ◌∙◌, subst, ap₂, arith, rules, leb-true}
+use Rattle.std.proofs.Common.{◌≡◌, ◌-◌, ◌≤◌, length}
 use Rattle.bench_text.specs.Pages.{more_of, page_of, paged_by}
-use Rattle.bench_text.proofs.Pages.{more_on, page-next, page-end}
 use Rattle.bench_text.proofs.ranged.fill.Given as goal
 
 abbrev pub invariant-loop-go : goal.invariant-loop-go

@@ -1,5 +1,5 @@
 -- The parts of the slot map. Assumes nothing.
-use Rattle.std.proofs.Common.{sym, rules}
+use Rattle.std.proofs.Common.{sym}
 use Rattle.bench_text.specs.Bench.{is_main, main_part}
 use Rattle.bench_text.proofs.ranged.is_main.Goals as goal
 

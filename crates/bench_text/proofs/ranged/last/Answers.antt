@@ -1,5 +1,5 @@
 -- One of two lines. Assumes nothing.
-use Rattle.std.proofs.Common.{ℕ, List, sym, subst, rules, eq-eqb, ne_eqb}
+use Rattle.std.proofs.Common.{ℕ, List, sym, subst, eq-eqb, ne_eqb}
 use Rattle.laws.specs.Choice.{if_yes, if_no}
 use Rattle.lines.specs.Place.{Wrote}
 use Rattle.lines.specs.Lines.{end_line, refused_line}

@@ -1,9 +1,8 @@
 -- A line, or none. Assumes nothing.
-use Rattle.std.proofs.Common.{◌≡◌, ℕ, ◌+◌, ◌-◌, ◌*◌, ◌%◌, ◌^◌, ◌≤◌, List, length, take, drop, ℤ, sym, refl, ap, ◌∙◌, subst, arith, length-take, rules}
+use Rattle.std.proofs.Common.{ℕ, ◌+◌, ◌-◌, ◌%◌, ◌^◌, length, take, drop, sym, refl, ◌∙◌, arith}
 use native.Mathlib.Nat.{min-le_right}
 use Rattle.bench_text.proofs.Pages.{taken, behind, few, printed, silent, below}
 use Rattle.bench_text.proofs.Laws.{soft-wrote}
-use Rattle.std.proofs.num.wrapping_add_u64.Reads as wrapping-add-u64-reads
 use Rattle.bench_text.proofs.ranged.line.Goals as goal
 
 pub overflow_cast-j-then-prints : goal.overflow_cast-j-then-prints

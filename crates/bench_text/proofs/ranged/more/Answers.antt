@@ -1,5 +1,5 @@
 -- Both tests. Assumes nothing.
-use Rattle.std.proofs.Common.{sym, rules}
+use Rattle.std.proofs.Common.{sym}
 use Rattle.bench_text.proofs.Pages.{more_none, more_some}
 use Rattle.bench_text.proofs.ranged.more.Goals as goal
 

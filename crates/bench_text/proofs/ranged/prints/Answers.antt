@@ -1,6 +1,5 @@
 -- All three tests. Assumes nothing.
 use Rattle.bench_text.specs.Bench.{prints_of}
-use Rattle.std.proofs.Common.{rules}
 use Rattle.bench_text.proofs.ranged.prints.Goals as goal
 
 pub returns : goal.returns

@@ -1,6 +1,5 @@
 -- `c_api::arrays::sv_correlate` meets its contract. Assumes nothing.
 use mathlib.Core.Path.{ap, ◌∙◌}
-use borrow.Author.Rules.{rules}
 use Rattle.c_api.specs.Arrays.{correlated}
 use Rattle.c_api.proofs.arrays.sv_correlate.Goals as goal
 

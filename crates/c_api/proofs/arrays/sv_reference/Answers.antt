@@ -1,5 +1,4 @@
 -- `c_api::arrays::sv_reference` meets its contract. Assumes nothing.
-use borrow.Author.Rules.{rules}
 use Rattle.c_api.proofs.arrays.sv_reference.Goals as goal
 
 pub returns : goal.returns

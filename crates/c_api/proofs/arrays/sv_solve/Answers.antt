@@ -1,5 +1,4 @@
 -- `c_api::arrays::sv_solve` meets its contract. Assumes nothing.
-use borrow.Author.Rules.{rules}
 use Rattle.c_api.specs.Arrays.{unknowns}
 use Rattle.c_api.proofs.arrays.sv_solve.Goals as goal
 

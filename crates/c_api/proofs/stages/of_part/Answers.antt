@@ -1,5 +1,4 @@
 -- `c_api::stages::of_part` meets its contract. Assumes nothing.
-use borrow.Author.Rules.{rules}
 use Rattle.c_api.specs.Stages.{placed}
 use Rattle.c_api.proofs.stages.of_part.Goals as goal
 

@@ -1,6 +1,5 @@
 -- `c_api::stages::sv_part` meets its contract. Assumes nothing.
 use mathlib.Core.Path.{ap, ◌∙◌}
-use borrow.Author.Rules.{rules}
 use Rattle.c_api.specs.Stages.{placed}
 use Rattle.c_api.proofs.stages.sv_part.Goals as goal
 

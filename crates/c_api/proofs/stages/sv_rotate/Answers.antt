@@ -1,6 +1,5 @@
 -- `c_api::stages::sv_rotate` meets its contract. Assumes nothing.
 use Prim.Native.Nat.{◌<◌, ◌^◌}
-use borrow.Author.Rules.{rules}
 use lib.Signed.{mag}
 use mir.Facts.{to_z-of_z}
 use mir.Syntax.{w16}

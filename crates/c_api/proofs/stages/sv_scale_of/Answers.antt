@@ -1,6 +1,5 @@
 -- `c_api::stages::sv_scale_of` meets its contract. Assumes nothing.
 use mathlib.Core.Path.{ap, ◌∙◌}
-use borrow.Author.Rules.{rules}
 use mir.Facts.{to_z-of_z}
 use Rattle.c_api.specs.Api.{number}
 use Rattle.c_api.proofs.stages.sv_scale_of.Goals as goal

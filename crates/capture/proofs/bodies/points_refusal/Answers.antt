@@ -1,5 +1,4 @@
 -- `capture::bodies::points_refusal` meets its contract. Assumes nothing.
-use borrow.Author.Rules.{rules}
 use Rattle.laws.specs.Choice.{cases}
 use Rattle.capture.specs.Bodies.{bits_of, scale_of, points_refusal}
 use Rattle.capture.proofs.bodies.points_refusal.Goals as goal

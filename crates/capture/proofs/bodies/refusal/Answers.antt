@@ -1,5 +1,4 @@
 -- `capture::bodies::refusal` meets its contract. Assumes nothing.
-use borrow.Author.Rules.{rules}
 use Rattle.laws.specs.Choice.{cases}
 use Rattle.capture.specs.Bodies.{bodies_refusal}
 use Rattle.capture.proofs.bodies.refusal.Goals as goal

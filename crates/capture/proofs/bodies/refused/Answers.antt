@@ -1,5 +1,4 @@
 -- `capture::bodies::refused` meets its contract. Assumes nothing.
-use borrow.Author.Rules.{rules}
 use Rattle.capture.specs.Bodies.{refused_heading}
 use Rattle.capture.proofs.bodies.refused.Goals as goal
 

@@ -1,14 +1,9 @@
-use borrow.Author.Rules.{rules}
-use mathlib.Core.List.{[], ◌++◌, append-nil}
-use mathlib.Core.Path.{◌≡◌, refl, ◌∙◌}
+use mathlib.Core.List.{◌++◌}
+use mathlib.Core.Path.{◌≡◌}
 use Prim.Native.Nat.{ℕ, ◌+◌, ◌*◌, ◌-◌, ◌≤◌}
-use native.Mathlib.Omega.{arith}
-use lib.ListN.{drop, drop_of_length-le}
-use mir.Facts.{to_z-of_z}
-use Rattle.laws.proofs.Lists.{firsts-step, length-fill}
+use lib.ListN.{drop}
 use Rattle.laws.specs.Ranges.{firsts}
 use Rattle.capture.specs.Bytes.{short_at}
-use Rattle.capture.specs.Bodies.{table_of}
 use Rattle.capture.proofs.bodies.table.Given as goal
 
 abbrev pub invariant-loop-i : goal.invariant-loop-i

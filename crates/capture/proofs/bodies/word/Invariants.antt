@@ -1,15 +1,9 @@
-use borrow.Author.Rules.{rules}
-use mathlib.Core.List.{[], ◌++◌, append-nil}
-use mathlib.Core.Path.{◌≡◌, refl, ◌∙◌}
+use mathlib.Core.List.{◌++◌}
+use mathlib.Core.Path.{◌≡◌}
 use Prim.Native.Nat.{ℕ, ◌+◌, ◌-◌, ◌≤◌}
-use native.Mathlib.Omega.{arith}
-use lib.IntN.{pos}
-use lib.ListN.{length, drop, drop_of_length-le, length-replicate}
-use mir.Facts.{to_z-of_z}
-use Rattle.laws.proofs.Lists.{firsts-step}
+use lib.ListN.{drop}
 use Rattle.laws.specs.Ranges.{firsts}
 use Rattle.capture.specs.Bytes.{byte_at}
-use Rattle.capture.specs.Bodies.{word_from}
 use Rattle.capture.proofs.bodies.word.Given as goal
 
 abbrev pub invariant-loop-i : goal.invariant-loop-i

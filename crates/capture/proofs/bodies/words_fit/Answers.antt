@@ -1,5 +1,4 @@
 -- `capture::bodies::words_fit` meets its contract. Assumes nothing.
-use borrow.Author.Rules.{rules}
 use Rattle.capture.specs.Bodies.{f_word, s_word, words_fit}
 use Rattle.capture.proofs.bodies.words_fit.Goals as goal
 

@@ -1,5 +1,4 @@
 -- `capture::entries::entry` meets its contract. Assumes nothing.
-use borrow.Author.Rules.{rules}
 use Rattle.capture.specs.Contents.{length_of, entry_fits, entry_of}
 use Rattle.capture.proofs.entries.entry.Goals as goal
 

@@ -1,5 +1,4 @@
 -- `lines::put::number_then` meets its contract. Assumes nothing.
-use borrow.Author.Rules.{rules}
 use native.Mathlib.Omega.{arith}
 use Rattle.lines.proofs.Laws.{then}
 use Rattle.lines.proofs.put.number_then.Goals as goal

@@ -1,11 +1,7 @@
-use borrow.Author.Rules.{rules}
 use mathlib.Core.Path.{◌≡◌}
 use Prim.Native.Nat.{◌+◌, ◌-◌, ◌≤◌}
-use native.Mathlib.Numerals.{add-one}
-use native.Mathlib.Omega.{arith}
 use lib.ListN.{length}
-use lib.Seq.{paste, paste-zero, paste-suc, length-paste}
-use Rattle.lines.proofs.Laws.{copied}
+use lib.Seq.{paste}
 use Rattle.lines.proofs.put.text.Given as goal
 
 abbrev pub invariant-loop-i : goal.invariant-loop-i
