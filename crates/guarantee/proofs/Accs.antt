@@ -1,5 +1,5 @@
 -- Accumulators stay numbers of 32 bits. Assumes nothing.
-use Prim.Native.Nat.{ℕ, ◌-◌, ◌^◌, ◌≤◌, ◌<◌}
+use Prim.Native.Nat.{ℕ, ◌^◌, ◌≤◌, ◌<◌}
 use Rattle.laws.proofs.Tests.{by_test, if_both}
 use Rattle.receiver.specs.declared.Receiver.{Receiver}
 use Rattle.receiver.specs.Symbol.{Input, Lent, acc_after, rotated, synced}

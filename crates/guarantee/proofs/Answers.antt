@@ -1,5 +1,5 @@
 -- The answer of a call, part by part. Assumes nothing.
-use Prim.Native.Nat.{ℕ, suc, ◌+◌, ◌-◌, ◌/◌, ◌%◌, ◌<◌}
+use Prim.Native.Nat.{ℕ, suc, ◌+◌, ◌-◌, ◌/◌, ◌%◌}
 use Rattle.guarantee.proofs.Follow.{wrong_any, wrong-lent}
 use Rattle.guarantee.proofs.Lists.{call_steps}
 use Rattle.guarantee.proofs.Loads.{end-answer}
@@ -10,11 +10,10 @@ use Rattle.guarantee.specs.Calls.{symbol, points, taps, opens, ends, restarts, o
 use Rattle.guarantee.specs.Demand.{Accumulated, Answers, lent_back, taken_in}
 use Rattle.guarantee.specs.History.{History, Training, count_of, ended_in, frame_of, happens, is_open}
 use Rattle.guarantee.specs.History.{none, since}
-use Rattle.laws.proofs.Tests.{by_test, never}
+use Rattle.laws.proofs.Tests.{never}
 use Rattle.laws.specs.Choice.{when◌then◌else◌}
 use Rattle.receiver.specs.Answers.{end_answer, restart_acc, restart_refusal}
 use Rattle.receiver.specs.Symbol.{Lent}
-use Rattle.receiver.specs.declared.Ended.{Ended}
 use Rattle.sums.specs.declared.Sums.{Sums}
 use Rattle.sums.specs.Sums.{empty_sums}
 use Rattle.sync_history.specs.History.{acc_after}
@@ -25,8 +24,8 @@ use Rattle.sync_tie.specs.Pushes.{size_at}
 use Rattle.sync_tie.specs.Tie.{Held}
 use lib.Dec.{lit≤, ltb}
 use lib.ListN.{get_or, length}
-use mathlib.Core.Bool.{Bool, false, true}
-use mathlib.Core.List.{List, []}
+use mathlib.Core.Bool.{Bool, false}
+use mathlib.Core.List.{List}
 use mathlib.Core.Path.{◌∙◌, ◌≡◌, ap, refl, subst, sym}
 use native.Mathlib.Omega.{arith}
 

@@ -1,5 +1,5 @@
 -- The kinds of losses: by markers, or by the eighth other period in a row; and each of them loses. Assumes nothing.
-use Prim.Native.Nat.{ℕ, suc, ◌+◌, ◌-◌, ◌/◌, ◌%◌, ◌≤◌}
+use Prim.Native.Nat.{ℕ, suc, ◌-◌, ◌/◌, ◌%◌, ◌≤◌}
 use Rattle.guarantee.proofs.Stretch.{grown-length}
 use Rattle.guarantee.proofs.Tied.{Tied, is_lost_lem}
 use Rattle.guarantee.specs.Calls.{Call, System}

@@ -1,5 +1,5 @@
 -- Nothing loses before a lock: a loss comes only after a lock on an earlier symbol of its stretch. Assumes nothing.
-use Prim.Native.Nat.{ℕ, suc, ◌-◌, ◌≤◌}
+use Prim.Native.Nat.{ℕ, suc, ◌≤◌}
 use Rattle.guarantee.proofs.Causes.{Cause, causes, lost-grows}
 use Rattle.guarantee.proofs.Tied.{Tied}
 use Rattle.guarantee.specs.Calls.{Call, System}

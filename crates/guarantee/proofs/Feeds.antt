@@ -16,7 +16,6 @@ use Rattle.receiver.specs.declared.Answer.{Answer}
 use Rattle.receiver.specs.declared.Receiver.{Receiver}
 use Rattle.receiver_slot.specs.Slot.{run_of, runs_of, soft_all, waiting_before, written_on}
 use Rattle.receiver_slot.specs.declared.Points.{Points}
-use Rattle.receiver_slot.specs.declared.Runs.{Runs}
 use Rattle.sums.specs.Sums.{empty_sums}
 use Rattle.sync_step.specs.Events.{is_nothing, no_events}
 use Rattle.sync_step.specs.declared.Event.{Event}
@@ -25,7 +24,7 @@ use Rattle.sync_step.specs.declared.Events.{Events}
 use borrow.Author.Tests.{eq-eqb, eqb-false, eqb-true, ne_eqb}
 use lib.Dec.{eqb}
 use lib.IntN.{ℤ}
-use lib.ListN.{drop, length, take}
+use lib.ListN.{drop, take}
 use mathlib.Core.Bool.{Bool, false, true, not, ◌&&◌, ◌||◌}
 use mathlib.Core.List.{List, [], ◌∷◌, ◌++◌}
 use mathlib.Core.Path.{◌∙◌, ◌≡◌, ap, ap₂, refl, subst, sym}

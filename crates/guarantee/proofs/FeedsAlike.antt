@@ -3,7 +3,7 @@ use Prim.Native.Nat.{ℕ, zero, suc, ◌+◌}
 use Rattle.guarantee.proofs.Alike.{Same, after_same, sys, told_same}
 use Rattle.guarantee.proofs.Feeds.{refused-1, wrong-after, wrong-told, wrong-used}
 use Rattle.guarantee.proofs.Follow.{own_wrong, wrong_any}
-use Rattle.guarantee.specs.Calls.{Accumulators, SlotStore, System, Told, handed_acc, handed_store, kept_acc, kept_store, lent_to}
+use Rattle.guarantee.specs.Calls.{Accumulators, SlotStore, System, handed_acc, handed_store, kept_acc, kept_store, lent_to}
 use Rattle.guarantee.specs.Calls.{own, wrong}
 use Rattle.guarantee.specs.Feeds.{Feed, after_feed, fed_by, told_feed, told_nothing}
 use Rattle.guarantee.specs.History.{own_acc, own_store}
@@ -18,13 +18,10 @@ use Rattle.receiver.specs.declared.Answer.{Answer}
 use Rattle.receiver.specs.declared.Receiver.{Receiver}
 use Rattle.receiver_laws.proofs.Stores.{alike}
 use Rattle.receiver_laws.specs.Stores.{Agree, lent}
-use Rattle.receiver_slot.specs.declared.Runs.{Runs}
 use Rattle.sums.specs.Sums.{empty_sums}
-use Rattle.sync_step.specs.declared.Events.{Events}
 use lib.Dec.{eqb}
 use lib.IntN.{ℤ}
-use lib.ListN.{length}
-use mathlib.Core.Bool.{Bool, false, true, ◌&&◌}
+use mathlib.Core.Bool.{false, ◌&&◌}
 use mathlib.Core.List.{List, [], ◌∷◌}
 use mathlib.Core.Path.{◌∙◌, ◌≡◌, ap, ap₂, refl, subst, sym}
 

@@ -1,36 +1,32 @@
 -- A feed refuses and uses symbols by the history. Assumes nothing.
-use Prim.Native.Nat.{ℕ, zero, suc, ◌+◌, ◌*◌, ◌/◌, ◌≤◌, ◌<◌}
-use Rattle.guarantee.proofs.Feeds.{feeds, left-alike, no_event, refused-1, told-one, wrong-used}
+use Prim.Native.Nat.{ℕ, zero, suc, ◌+◌, ◌*◌, ◌≤◌, ◌<◌}
+use Rattle.guarantee.proofs.Feeds.{left-alike, no_event, refused-1, told-one, wrong-used}
 use Rattle.guarantee.proofs.Follow.{own_wrong, says-1, wrong_any}
 use Rattle.guarantee.proofs.Lists.{call_steps}
 use Rattle.guarantee.proofs.Outs.{runs_by}
 use Rattle.guarantee.proofs.Quiet.{no_head}
 use Rattle.guarantee.proofs.Refusals.{own-fit}
 use Rattle.guarantee.proofs.Tied.{Tied}
-use Rattle.guarantee.specs.Calls.{Accumulators, Call, InputFits, SlotStore, System, after_call, handed_acc, handed_store, lent_to, told_by}
+use Rattle.guarantee.specs.Calls.{Accumulators, Call, InputFits, SlotStore, System, after_call, handed_acc, handed_store, lent_to}
 use Rattle.guarantee.specs.Calls.{symbol, own, wrong}
 use Rattle.guarantee.specs.Feeds.{Feed, FeedTold, call_at, fed_by, feed_refusal_in, told_feed, used_from}
 use Rattle.guarantee.specs.History.{History, events_in, happens, own_acc, own_store, refusal_in, runs_in, runs_with}
 use Rattle.guarantee.specs.Items.{FeedFits}
 use Rattle.laws.proofs.Tests.{by_test}
-use Rattle.laws.specs.Choice.{if_no, if_yes, when◌then◌else◌}
+use Rattle.laws.specs.Choice.{if_no, when◌then◌else◌}
 use Rattle.receiver.specs.Answers.{no_runs, symbol_answer, symbol_lent}
 use Rattle.receiver.specs.Feed.{Block, Fed, any_event, fed_from, feed_of, feed_refusal, input_at, quiet_at, standing_refusal, symbols_of, tells_any}
-use Rattle.receiver.specs.Ranges.{receiver_in_range}
 use Rattle.receiver.specs.Symbol.{Lent}
 use Rattle.receiver.specs.declared.Answer.{Answer}
 use Rattle.receiver_range.proofs.InRange.{in_range}
 use Rattle.receiver_slot.specs.Slot.{no_run}
-use Rattle.receiver_slot.specs.declared.Runs.{Runs}
-use Rattle.sync_corr.specs.Correlate.{ones_of}
 use Rattle.sync_step.specs.Events.{no_events}
-use Rattle.sync_step.specs.declared.Events.{Events}
 use Rattle.sync_tie.specs.Claims.{any_head}
 use borrow.Author.Tests.{eqb-false, eqb-true, ne_eqb}
-use lib.Dec.{eqb, leb}
+use lib.Dec.{eqb}
 use lib.IntN.{ℤ}
 use lib.ListN.{length}
-use mathlib.Core.Bool.{Bool, false, true, not, ◌&&◌, ◌||◌}
+use mathlib.Core.Bool.{false, true, ◌&&◌}
 use mathlib.Core.List.{List}
 use mathlib.Core.Path.{◌∙◌, ◌≡◌, ap, ap₂, refl, subst, sym}
 use native.Mathlib.Omega.{arith}

@@ -1,5 +1,5 @@
 -- Every call answers by the history, and keeps the tie. Assumes nothing.
-use Prim.Native.Nat.{ℕ, ◌-◌}
+use Prim.Native.Nat.{ℕ}
 use Rattle.guarantee.proofs.Refusals.{own-refusal, wrong_fit}
 use Rattle.guarantee.proofs.Taken.{symbol-tied}
 use Rattle.guarantee.proofs.Tied.{Tied, events-are}

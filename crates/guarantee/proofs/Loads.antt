@@ -1,5 +1,5 @@
 -- Loads, training calls and restarts answer by the history, and keep the tie. Assumes nothing.
-use Prim.Native.Nat.{ℕ, ◌-◌, ◌≤◌}
+use Prim.Native.Nat.{ℕ}
 use Rattle.demap.specs.Answers.{bad_points, bad_scale}
 use Rattle.eq.specs.Eq.{loaded_eq, with_sums}
 use Rattle.eq.specs.declared.Equaliser.{Equaliser}

@@ -37,7 +37,7 @@ use Rattle.sync_tie.specs.Pushes.{Push, size_at}
 use Rattle.sync_tie.proofs.Story.{ends_at, lock_at, loses_at, period_loses, stats_at, taken_at, tells, told_at}
 use Rattle.sync_tie.proofs.Theorems.{kept-fold, ruled-at, tells-same}
 use Rattle.sync_tie.specs.Stretch as rule
-use Rattle.sync_tie.specs.Tie.{Held, Kept, pushes}
+use Rattle.sync_tie.specs.Tie.{Held, Kept}
 use borrow.Author.Tests.{ltb-false}
 use lib.Dec.{eqb, lit≤, ltb}
 use lib.IntN.{ℤ}

@@ -27,7 +27,7 @@ use Rattle.sync_step.specs.declared.Event.TheVariants.{Nothing, Head, Period, Lo
 use Rattle.sync_step.specs.declared.Events.{Events}
 use Rattle.sync_step.specs.Events.{no_events}
 use Rattle.sync_tie.proofs.Says.{tells-late}
-use Rattle.sync_tie.specs.Stretch.{loses_at, tells, told_at}
+use Rattle.sync_tie.specs.Stretch.{loses_at, told_at}
 use borrow.Author.Tests.{eqb-true}
 use lib.Dec.{eqb, leb}
 use lib.IntN.{ℤ}

@@ -1,5 +1,5 @@
 -- What comes out of a call: all of the slot that it completes but its last five, behind the five of the slot before. Assumes nothing.
-use Prim.Native.Nat.{ℕ, ◌+◌, ◌-◌, ◌%◌, ◌≤◌, ◌<◌}
+use Prim.Native.Nat.{ℕ, ◌+◌, ◌-◌, ◌≤◌}
 use Rattle.frame.specs.Align.{joined_to}
 use Rattle.frame.specs.declared.Back.{Back}
 use Rattle.frame_line.specs.Line.{gap_at}
@@ -9,7 +9,7 @@ use Rattle.guarantee.proofs.Quiet.{no_head, no-slot-none, none-refused, one_not,
 use Rattle.guarantee.proofs.Refusals.{own-refusal}
 use Rattle.guarantee.proofs.Slots.{Slots, first-due, later-due}
 use Rattle.guarantee.proofs.Tied.{Tied, events-are, head-locked, next-is, told_in}
-use Rattle.guarantee.specs.Calls.{Accumulators, Call, CallFits, InputFits, SlotStore, System, Told, handed_acc, handed_store, lent_to, plain, told_by}
+use Rattle.guarantee.specs.Calls.{Accumulators, Call, CallFits, InputFits, SlotStore, System, handed_acc, handed_store, lent_to, plain, told_by}
 use Rattle.guarantee.specs.Calls.{symbol, points, taps, opens, ends, restarts, own, wrong}
 use Rattle.guarantee.specs.Demand.{NoSoft, SlotTold}
 use Rattle.guarantee.specs.History.{History, events_in, events_with, refusal_in, run_in, runs_in, runs_with, slot_at}
@@ -18,12 +18,12 @@ use Rattle.laws.specs.Choice.{if_no, if_yes, when◌then◌else◌}
 use Rattle.phase.specs.declared.Due.TheVariants.{Nothing as NoSlot, Slot}
 use Rattle.phase.specs.declared.WholeSlot.{WholeSlot}
 use Rattle.receiver.specs.Answers.{no_runs, symbol_refusal}
-use Rattle.receiver.specs.Symbol.{Input, Lent, aligned, heads, next_of, runs, slot, synced}
+use Rattle.receiver.specs.Symbol.{Input, Lent, aligned, heads, next_of, runs, synced}
 use Rattle.receiver.specs.declared.Answer.{Answer}
 use Rattle.receiver.specs.declared.Receiver.{Receiver}
 use Rattle.receiver_laws.proofs.Aligned.{runs_are}
 use Rattle.receiver_laws.specs.Aligned.{RunsAre}
-use Rattle.receiver_range.proofs.Symbols.{Due-is, due_is, slot_is}
+use Rattle.receiver_range.proofs.Symbols.{due_is, slot_is}
 use Rattle.receiver_range.specs.Coherent.{Adjoins, CoherentReceiver, Untouched}
 use Rattle.receiver_slot.specs.Slot.{no_run, points_for}
 use Rattle.receiver_slot.specs.declared.AlignedRun.{AlignedRun}
@@ -33,11 +33,10 @@ use Rattle.sync_tie.specs.Claims.{any_head}
 use borrow.Author.Tests.{eq-eqb, eqb-false, eqb-true, ne_eqb}
 use lib.Dec.{eqb}
 use lib.IntN.{ℤ}
-use lib.ListN.{length}
-use mathlib.Core.Bool.{false, true, not}
+use mathlib.Core.Bool.{false, true}
 use mathlib.Core.List.{List}
 use mathlib.Core.Logic.{◌⊎◌, inl, inr}
-use mathlib.Core.Path.{◌∙◌, ◌≡◌, ap, ap₂, refl, subst, sym}
+use mathlib.Core.Path.{◌∙◌, ◌≡◌, ap, ap₂, refl, sym}
 use native.Mathlib.Omega.{arith}
 
 -- a refused symbol tells no head

@@ -1,5 +1,5 @@
 -- The aligned symbols of a call are those that its runs tell of. Assumes nothing.
-use Prim.Native.Nat.{ℕ, zero, suc, ◌+◌, ◌<◌}
+use Prim.Native.Nat.{ℕ, zero, suc, ◌+◌}
 use Rattle.frame.specs.Align.{joined_to}
 use Rattle.frame.specs.declared.AlignedSymbol.{AlignedSymbol}
 use Rattle.frame.specs.declared.Back.{Back}
@@ -15,7 +15,7 @@ use Rattle.phase.specs.Phase.{corrected_of}
 use Rattle.phase.specs.declared.Due.{Due}
 use Rattle.phase.specs.declared.Due.TheVariants.{Nothing as NoSlot, Slot}
 use Rattle.phase.specs.declared.WholeSlot.{WholeSlot}
-use Rattle.receiver.specs.Symbol.{Input, Lent, aligned, heads, runs, slot}
+use Rattle.receiver.specs.Symbol.{Input, Lent, aligned, heads, runs}
 use Rattle.receiver.specs.declared.Receiver.{Receiver}
 use Rattle.receiver_range.proofs.Symbols.{due_is, none-due, slot_is}
 use Rattle.receiver_range.specs.Coherent.{Adjoins, CoherentReceiver, Untouched}
@@ -23,7 +23,6 @@ use Rattle.receiver_slot.proofs.Aligned.{aligned_are}
 use Rattle.receiver_slot.specs.Aligned.{comes_out, metas_in}
 use Rattle.receiver_slot.specs.Slot.{aligned_all, no_run, run_of, runs_of, waiting_before}
 use Rattle.receiver_slot.specs.declared.AlignedRun.{AlignedRun}
-use lib.ListN.{take}
 use mathlib.Core.List.{List, [], ◌∷◌, ◌++◌}
 use mathlib.Core.Logic.{◌⊎◌, inl, inr}
 use mathlib.Core.Path.{◌∙◌, ◌≡◌, ap, ap₂, refl, sym}

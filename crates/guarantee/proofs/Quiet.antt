@@ -1,5 +1,5 @@
 -- No soft bit before lock, and none of a refused symbol. Assumes nothing.
-use Prim.Native.Nat.{ℕ, ◌-◌, ◌≤◌}
+use Prim.Native.Nat.{ℕ}
 use Rattle.guarantee.proofs.Early.{lost_locked}
 use Rattle.guarantee.proofs.Follow.{answer_is, lent_is, own_wrong, says-1, wrong_any}
 use Rattle.guarantee.proofs.Lists.{call_steps}

@@ -1,5 +1,5 @@
 -- Refusals are those of the history. Assumes nothing.
-use Prim.Native.Nat.{ℕ, ◌+◌, ◌-◌, ◌^◌}
+use Prim.Native.Nat.{ℕ, ◌+◌, ◌^◌}
 use Rattle.guarantee.proofs.Slots.{Sums, symbol-sums, trainings_by}
 use Rattle.guarantee.proofs.Taken.{trainings-are}
 use Rattle.guarantee.proofs.Tied.{SumsTied, Tied, acc-long, head-locked, next-is, told_in}

@@ -1,6 +1,6 @@
 -- What happened, from the calls alone: types of a receiver's state stand here, but no receiver's state. A history is that of the stretch that runs: since
 -- the new receiver, the last loss or the last accepted restart.
-use Rattle.std.specs.Prelude.{ℕ, zero, suc, ◌+◌, ◌-◌, ◌^◌, Bool, true, false, not, ◌&&◌, List, [], ◌∷◌, ◌++◌, eqb, leb, ltb, ℤ, length}
+use Rattle.std.specs.Prelude.{ℕ, zero, suc, ◌+◌, ◌-◌, ◌^◌, Bool, true, false, ◌&&◌, List, [], ◌∷◌, ◌++◌, eqb, leb, ltb, ℤ, length}
 use Rattle.laws.specs.Choice.{when◌then◌else◌}
 use Rattle.sync_corr.specs.Correlate.{ones_of}
 use Rattle.sync_heads.specs.declared.Record.{Record}

@@ -1,5 +1,5 @@
 -- What the calls answer, and the lent stores afterwards. A refusal "returns the number and the state received; lent memory is unchanged".
-use Rattle.std.specs.Prelude.{ℕ, ◌+◌, ◌-◌, Bool, true, false, not, ◌&&◌, List, ◌++◌, eqb, leb, ltb, ℤ, pos, nat_abs, length, replicate}
+use Rattle.std.specs.Prelude.{ℕ, ◌-◌, Bool, true, false, ◌&&◌, List, ◌++◌, eqb, leb, ltb, ℤ, pos, nat_abs, length, replicate}
 use Rattle.laws.specs.Choice.{when◌then◌else◌}
 use Rattle.sync_corr.specs.Correlate.{ones_of}
 use Rattle.sync_step.specs.Events.{no_events}

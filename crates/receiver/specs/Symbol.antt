@@ -7,7 +7,6 @@ use Rattle.sync_step.specs.Step.{place_of}
 use Rattle.sync.specs.declared.SlotSync.{SlotSync}
 use Rattle.sync.specs.Sync.{window_after, stored_of, kept_window, symbol_of}
 use Rattle.carrier.specs.Carrier.{rotated_of, advanced_nco}
-use Rattle.phase.specs.declared.SlotPhase.{SlotPhase}
 use Rattle.phase.specs.declared.Due.{Due}
 use Rattle.phase.specs.declared.Due.TheVariants.{Nothing as NoSlot, Slot}
 use Rattle.phase.specs.declared.Corrected.{Corrected}

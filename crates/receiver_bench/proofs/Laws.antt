@@ -1,19 +1,17 @@
 -- A turn of each loop, and that no more is taken of a stream than it has. Assumes nothing.
-use Prim.Native.Nat.{ℕ, zero, suc, ◌+◌, ◌-◌, ◌*◌, ◌/◌, ◌≤◌}
+use Prim.Native.Nat.{ℕ, zero, suc, ◌+◌, ◌-◌, ◌*◌, ◌≤◌}
 use mathlib.Core.List.{List, [], ◌∷◌}
-use mathlib.Core.Path.{◌≡◌, refl, sym, ap, ◌∙◌}
+use mathlib.Core.Path.{◌≡◌, refl, sym, ap}
 use native.Mathlib.Numerals.{add-one}
 use native.Mathlib.Omega.{arith}
-use lib.Dec.{eqb}
 use lib.IntN.{ℤ, pos}
 use lib.ListN.{drop, get_or, length, length-drop, take}
-use Rattle.laws.proofs.Tests.{if_both}
 use Rattle.receiver.specs.declared.Receiver.{Receiver}
 use Rattle.receiver.specs.declared.Answer.{Answer}
 use Rattle.receiver.specs.Symbol.{Input, Lent}
 use Rattle.receiver.specs.declared.Answered.{Answered as Ready}
 use Rattle.receiver.specs.Answers.{new_acc, new_answer, points_answer, symbol_answer, symbol_lent}
-use Rattle.receiver.specs.Feed.{Block, Fed, fed_from, feed_of, feed_refusal, input_at, quiet_at, symbols_of, tells_any}
+use Rattle.receiver.specs.Feed.{Block, feed_of, input_at}
 use Rattle.receiver_feed.specs.declared.Fed.{Fed as Answered}
 use Rattle.receiver_feed.specs.Answers.{feed_answer}
 use Rattle.receiver_feed.proofs.Stand.{feed_within}

@@ -5,26 +5,24 @@ use mathlib.Core.List.{List, [], ◌∷◌, ◌++◌}
 use mathlib.Core.Path.{◌≡◌, refl, sym, ap, subst, ◌∙◌}
 use native.Mathlib.Omega.{arith}
 use native.Mathlib.Numerals.{add-one}
-use borrow.Author.Tests.{eq-eqb, le-leb, leb-true, lt-leb, lt-ltb, le-ltb, ltb-true, ltb-false}
-use lib.Dec.{eqb, leb, ltb}
+use borrow.Author.Tests.{eq-eqb, le-leb, leb-true, lt-leb, le-ltb, ltb-true, ltb-false}
+use lib.Dec.{leb, ltb}
 use lib.IntN.{ℤ, nat_abs, pos}
 use lib.ListN.{drop, get_or, length, length-set, set}
 use Rattle.laws.specs.Choice.{when◌then◌else◌, if_yes, if_no}
 use Rattle.laws.proofs.Tests.{and_both, by_test, if_both}
 use Rattle.sync_corr.proofs.Laws.{dots_both}
-use Rattle.sync_corr.specs.Correlate.{both_of, ones_of, size_of}
 use Rattle.sync_corr.specs.Rows.{rows_of}
 use Rattle.angles.specs.Angles.{turned_by}
 use Rattle.angles.specs.declared.Symbol.{Symbol}
 use Rattle.sync_lock.specs.declared.Tally.{Tally}
-use Rattle.sync_lock.specs.Period.{counted_of, leak_of}
 use Rattle.sync_lock.specs.Ranges.{lock_in_range}
 use Rattle.sync_lock.specs.Rule.{locked_at}
 use Rattle.sync_heads.specs.Ranges.{course_in_range}
 use Rattle.sync_step.specs.declared.LastCorr.{LastCorr}
 use Rattle.sync_step.specs.declared.Run.{Run}
 use Rattle.sync_step.specs.Events.{event_of, heads_of, is_nothing, no_events}
-use Rattle.sync_step.specs.Step.{after_of, kept_of, place_of, step_of}
+use Rattle.sync_step.specs.Step.{after_of, kept_of, place_of}
 use Rattle.sync.specs.Sync.{kept_window, stored_of, symbol_of, window_after}
 use Rattle.sync_block.specs.Quiet.{Ahead, Rolled, passed_run, roll_one, rolled}
 use Rattle.sync_block.specs.Reach.{reach_of}
@@ -41,7 +39,6 @@ use Rattle.receiver_slot.specs.Slot.{no_run}
 use Rattle.receiver_bounds.specs.Bounds.{all_within, back_within, head_within, held_within, nco_within, phase_within, points_within, run_within, stage_within, tally_within, trail_within, within}
 use Rattle.receiver.specs.declared.Receiver.{Receiver}
 use Rattle.receiver.specs.declared.Listened.{Listened}
-use Rattle.receiver.specs.declared.Answer.{Answer}
 use Rattle.receiver.specs.Heads.{event_heard, is_lost, listened, loses_in}
 use Rattle.receiver.specs.Symbol.{Input, Lent, next_of}
 use Rattle.receiver.specs.Ranges.{front_within, receiver_in_range}

@@ -4,12 +4,12 @@ use mathlib.Core.Bool.{Bool, true, false, ◌&&◌}
 use mathlib.Core.List.{List}
 use mathlib.Core.Path.{◌≡◌, refl, sym, ap, subst, ◌∙◌}
 use native.Mathlib.Omega.{arith}
-use borrow.Author.Tests.{eq-eqb, eqb-false, eqb-true, le-leb, leb-true, ne_eqb}
+use borrow.Author.Tests.{eq-eqb, eqb-true, le-leb, leb-true, ne_eqb}
 use lib.Dec.{eqb, leb}
 use lib.IntN.{ℤ, pos}
 use lib.ListN.{get_or, length}
 use Rattle.laws.specs.Choice.{when◌then◌else◌, if_yes, if_no}
-use Rattle.laws.proofs.Tests.{and_both, by_test, if_both, if_either, never}
+use Rattle.laws.proofs.Tests.{and_both, by_test, if_both, never}
 use Rattle.sync_corr.specs.Correlate.{ones_of}
 use Rattle.sync_corr.specs.Rows.{rows_of}
 use Rattle.sync_step.specs.declared.Events.{Events}
@@ -17,7 +17,7 @@ use Rattle.sync_step.specs.Events.{no_events}
 use Rattle.receiver_slot.specs.declared.Runs.{Runs}
 use Rattle.receiver.specs.declared.Receiver.{Receiver}
 use Rattle.receiver.specs.declared.Answer.{Answer}
-use Rattle.receiver.specs.Symbol.{Input, Lent, past, full}
+use Rattle.receiver.specs.Symbol.{Input, Lent}
 use Rattle.receiver.specs.Ranges.{receiver_in_range}
 use Rattle.receiver.specs.Answers.{no_runs, stores_fit, symbol_answer, symbol_lent, symbol_refusal}
 use Rattle.receiver.specs.Feed.{Block, Fed, fed_from, feed_of, feed_refusal, input_at, quiet_at, standing_refusal, symbols_of, tells_any}

@@ -1,6 +1,6 @@
 -- How the code goes through symbols that tell nothing: window, figures, carrier phase, one accumulator and one place of the slot store change. That this is
 -- what a symbol's call does is a law (proofs/Calm.antt).
-use Rattle.std.specs.Prelude.{ℕ, zero, suc, ◌+◌, ◌*◌, ◌<◌, min, Bool, true, List, ◌≡◌, ltb, ℤ, pos, get_or, set}
+use Rattle.std.specs.Prelude.{ℕ, zero, suc, ◌+◌, ◌*◌, min, true, List, ◌≡◌, ltb, ℤ, pos, get_or, set}
 use Rattle.laws.specs.Choice.{when◌then◌else◌}
 use Rattle.angles.specs.Angles.{turned_by}
 use Rattle.sync_lock.specs.declared.Tally.{Tally}

@@ -1,5 +1,5 @@
 -- A feed goes by turns: a stretch of symbols that tell nothing, or one symbol.
-use Rattle.std.specs.Prelude.{ℕ, zero, suc, ◌+◌, ◌-◌, ◌*◌, ◌^◌, ◌<◌, ◌≤◌, min, Bool, true, false, ◌&&◌, List, ◌≡◌, eqb, leb, ℤ, length}
+use Rattle.std.specs.Prelude.{ℕ, zero, suc, ◌+◌, ◌-◌, ◌^◌, ◌<◌, ◌≤◌, min, true, false, ◌&&◌, List, ◌≡◌, eqb, leb, ℤ}
 use Rattle.laws.specs.Choice.{when◌then◌else◌}
 use Rattle.sync_corr.specs.Correlate.{ones_of}
 use Rattle.sync_step.specs.Events.{no_events}
@@ -9,7 +9,7 @@ use Rattle.receiver.specs.declared.Answer.{Answer}
 use Rattle.receiver.specs.Symbol.{Lent, next_of}
 use Rattle.receiver.specs.Ranges.{receiver_in_range}
 use Rattle.receiver.specs.Answers.{no_runs, symbol_answer, symbol_lent}
-use Rattle.receiver.specs.Feed.{Block, Fed, input_at, quiet_at, symbols_of, tells_any}
+use Rattle.receiver.specs.Feed.{Block, Fed, input_at, quiet_at, tells_any}
 use Rattle.receiver_feed.specs.declared.Turn.{Turn}
 use Rattle.receiver_feed.specs.declared.Fed.{Fed as Answered}
 

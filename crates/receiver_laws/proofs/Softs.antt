@@ -1,5 +1,5 @@
 -- What the soft bits of a call say: specs/Softs. Each statement stands above its proof. Assumes nothing.
-use Prim.Native.Nat.{ℕ, ◌+◌, ◌-◌, ◌≤◌, ◌<◌, zero-le}
+use Prim.Native.Nat.{ℕ, ◌-◌, ◌≤◌, ◌<◌, zero-le}
 use Rattle.demap.proofs.Theorems.{Tells, bits_theorem, demap_theorem}
 use Rattle.demap.specs.Answers.{demap_buffer, demap_refusal}
 use Rattle.demap.specs.Demap.{label_metric, soft_at, soft_bits}

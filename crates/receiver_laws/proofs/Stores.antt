@@ -1,5 +1,5 @@
 -- A symbol's call does not see what its slot store holds beyond the held slot's symbols. Assumes nothing.
-use Prim.Native.Nat.{ℕ, zero, suc, ◌+◌, ◌<◌, ◌≤◌}
+use Prim.Native.Nat.{ℕ, zero, suc, ◌+◌, ◌<◌}
 use Rattle.laws.proofs.Tests.{by_test, if_ap}
 use Rattle.laws.specs.Choice.{if_no, if_yes, when◌then◌else◌}
 use Rattle.laws.specs.Ranges.{firsts}

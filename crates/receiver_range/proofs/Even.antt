@@ -20,12 +20,11 @@ use Rattle.sync_heads.specs.declared.Word.{Word}
 use Rattle.sync_heads.specs.declared.Word.TheVariants.{Ssync, Fsync, NotFsync}
 use Rattle.carrier.specs.declared.Heard.{Heard}
 use Rattle.carrier.specs.declared.Nco.{Nco}
-use Rattle.carrier.specs.declared.Steps.{Steps}
 use Rattle.carrier.specs.declared.Trail.{Trail}
 use Rattle.carrier.specs.declared.Trail.TheVariants.{Empty, Since}
 use Rattle.carrier.specs.Carrier.{ssync_heard, trail_heard, word_heard, heard_of}
 use Rattle.carrier.proofs.Kept.{word_coherent}
-use Rattle.receiver_range.specs.Coherent.{NcoFits, StepsEven, TrailEven}
+use Rattle.receiver_range.specs.Coherent.{NcoFits, TrailEven}
 
 -- ---- the CORDIC: a step turns by its angle, one way or the other
 total : ℕ → ℕ

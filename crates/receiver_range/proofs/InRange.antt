@@ -40,7 +40,6 @@ use Rattle.phase.specs.declared.Held.{Held}
 use Rattle.phase.specs.declared.SlotPhase.{SlotPhase}
 use Rattle.phase.specs.declared.SlotPhase.TheVariants.{Idle, Holds}
 use Rattle.sums.specs.declared.Sums.{Sums}
-use Rattle.eq_train.specs.Ranges.{upper_in_range}
 use Rattle.eq_train.specs.Sound.{SumsSound}
 use Rattle.eq_train.proofs.Theorems.{sound_upper}
 use Rattle.eq.specs.declared.Equaliser.{Equaliser}

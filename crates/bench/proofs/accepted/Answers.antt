@@ -1,6 +1,5 @@
 -- The stores keep their lengths. Assumes nothing.
 use mathlib.Core.Path.{◌∙◌}
-use borrow.Author.Rules.{rules}
 use Rattle.bench.proofs.accepted.Goals as goal
 
 pub blocks-b-requires : goal.blocks-b-requires

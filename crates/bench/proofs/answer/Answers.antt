@@ -1,12 +1,11 @@
 -- Events and runs leave what the answer's pages leave. Assumes nothing.
 use mathlib.Core.Bool.{not}
-use mathlib.Core.Path.{◌≡◌, sym, ap, subst, ◌∙◌}
+use mathlib.Core.Path.{sym, ap, subst, ◌∙◌}
 use Prim.Native.Nat.{ℕ}
 use lib.ListN.{drop}
 use Rattle.lines.specs.Place.{Wrote}
 use Rattle.bench_text.specs.Bench.{events_text}
 use Rattle.bench_text.specs.Claims.{room_at}
-use borrow.Author.Rules.{rules}
 use Rattle.laws.proofs.Tests.{and_both, never}
 use Rattle.bench_text.proofs.Theorems.{answer_left_lem}
 use Rattle.bench.proofs.answer.Goals as goal

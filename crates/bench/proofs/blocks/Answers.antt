@@ -1,7 +1,5 @@
 -- The stores keep their lengths. Assumes nothing.
-use lib.ListN.{length}
-use mathlib.Core.Path.{◌≡◌, ◌∙◌}
-use borrow.Author.Rules.{rules}
+use mathlib.Core.Path.{◌∙◌}
 use Rattle.bench.proofs.blocks.Goals as goal
 
 pub block-q-requires : goal.block-q-requires

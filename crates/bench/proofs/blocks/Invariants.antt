@@ -1,6 +1,5 @@
 use lib.ListN.{length}
-use mathlib.Core.Path.{◌≡◌, ◌∙◌}
-use borrow.Author.Rules.{rules}
+use mathlib.Core.Path.{◌≡◌}
 use Rattle.bench.proofs.blocks.Given as goal
 
 abbrev pub invariant-loop-turns : goal.invariant-loop-turns

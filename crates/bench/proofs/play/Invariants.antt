@@ -2,7 +2,6 @@
 use lib.ListN.{length}
 use mathlib.Core.Path.{◌≡◌}
 use Prim.Native.Nat.{◌≤◌}
-use borrow.Author.Rules.{rules}
 use Rattle.bench.proofs.play.Given as goal
 
 abbrev pub invariant-loop-turns : goal.invariant-loop-turns

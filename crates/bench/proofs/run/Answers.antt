@@ -1,9 +1,8 @@
 -- The turns left lead to the page that all turns lead to, as long as writing goes well. Assumes nothing.
-use lib.ListN.{length, drop}
-use mathlib.Core.Bool.{true}
+use lib.ListN.{drop}
 use mathlib.Core.List.{List, []}
 use mathlib.Core.Path.{◌≡◌, refl, sym, ap, ◌∙◌}
-use Prim.Native.Nat.{ℕ, suc, ◌-◌, ◌≤◌, ◌<◌}
+use Prim.Native.Nat.{ℕ, suc, ◌-◌, ◌<◌}
 use native.Mathlib.Omega.{arith}
 use lib.IntN.{ℤ}
 use borrow.Author.Rules.{rules}
@@ -11,7 +10,7 @@ use Rattle.laws.proofs.Tests.{never}
 use Rattle.receiver_slot.specs.declared.AlignedRun.{AlignedRun}
 use Rattle.bench_text.specs.Pages.{Paged, paged_by, page_of}
 use Rattle.bench_text.specs.declared.Page.{Page}
-use Rattle.bench_text.specs.Claims.{Sent, pages_from, run_on}
+use Rattle.bench_text.specs.Claims.{pages_from, run_on}
 use Rattle.bench_text.proofs.Theorems.{turn_last, turn_on}
 use Rattle.bench.proofs.run.Invariants.{page, led}
 use Rattle.bench.proofs.run.Goals as goal

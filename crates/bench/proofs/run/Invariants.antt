@@ -1,17 +1,12 @@
 use lib.ListN.{length, drop}
 use mathlib.Core.Bool.{true}
 use mathlib.Core.List.{List, []}
-use mathlib.Core.Path.{◌≡◌, refl, sym, ap, ◌∙◌}
-use Prim.Native.Nat.{ℕ, suc, ◌-◌, ◌≤◌, ◌<◌}
-use native.Mathlib.Omega.{arith}
+use mathlib.Core.Path.{◌≡◌}
+use Prim.Native.Nat.{ℕ, ◌≤◌, ◌<◌}
 use lib.IntN.{ℤ}
-use borrow.Author.Rules.{rules}
-use Rattle.laws.proofs.Tests.{never}
 use Rattle.receiver_slot.specs.declared.AlignedRun.{AlignedRun}
-use Rattle.bench_text.specs.Pages.{Paged, paged_by, page_of}
-use Rattle.bench_text.specs.declared.Page.{Page}
-use Rattle.bench_text.specs.Claims.{Sent, pages_from, run_on}
-use Rattle.bench_text.proofs.Theorems.{turn_last, turn_on}
+use Rattle.bench_text.specs.Pages.{Paged}
+use Rattle.bench_text.specs.Claims.{pages_from}
 use Rattle.bench.proofs.run.Given as goal
 
 abbrev pub page : ℕ → List ℤ → ℕ → List ℕ → Paged

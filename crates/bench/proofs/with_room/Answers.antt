@@ -1,7 +1,6 @@
 -- Where an answer begins. Assumes nothing.
 use mathlib.Core.Path.{sym}
 use native.Mathlib.Omega.{arith}
-use borrow.Author.Rules.{rules}
 use borrow.Author.Tests.{le-leb, lt-leb}
 use Rattle.laws.specs.Choice.{if_yes, if_no}
 use Rattle.bench_text.specs.Claims.{room_at}

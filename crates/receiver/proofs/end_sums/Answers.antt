@@ -1,7 +1,6 @@
 -- `receiver::end_sums` meets its contract. Assumes nothing.
 use Rattle.receiver.specs.Answers.{end_answer}
 use Rattle.laws.specs.Choice.{cases}
-use borrow.Author.Rules.{rules}
 use Rattle.receiver.proofs.end_sums.Goals as goal
 
 pub returns-then-opened : goal.returns-then-opened

@@ -2,7 +2,6 @@
 use Rattle.receiver.proofs.Laws.{points_taken}
 use Rattle.receiver.specs.Answers.{points_answer}
 use Rattle.laws.specs.Choice.{cases}
-use borrow.Author.Rules.{rules}
 use lib.ListN.{length}
 use mathlib.Core.Path.{◌∙◌, sym}
 use mir.Facts.{to_z-of_z}

@@ -1,6 +1,5 @@
 -- `receiver::load_taps` meets its contract. Assumes nothing.
 use Rattle.receiver.specs.Answers.{taps_answer}
-use borrow.Author.Rules.{rules}
 use Rattle.receiver.proofs.load_taps.Goals as goal
 
 pub returns : goal.returns

@@ -1,7 +1,6 @@
 -- `receiver::new` meets its contract. Assumes nothing.
 use Rattle.receiver.specs.Answers.{new_acc, new_answer}
 use Rattle.laws.specs.Choice.{cases}
-use borrow.Author.Rules.{rules}
 use mathlib.Core.Path.{◌∙◌}
 use mir.Facts.{to_z-of_z}
 use mir.Syntax.{w32}

@@ -1,6 +1,5 @@
 -- `receiver::open_sums` meets its contract. Assumes nothing.
 use Rattle.receiver.specs.Answers.{open_answer}
-use borrow.Author.Rules.{rules}
 use Rattle.receiver.proofs.open_sums.Goals as goal
 
 pub returns : goal.returns

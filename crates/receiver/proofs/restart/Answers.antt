@@ -1,7 +1,6 @@
 -- `receiver::restart` meets its contract. Assumes nothing.
 use Rattle.receiver.specs.Answers.{restart_acc, restart_answer}
 use Rattle.laws.specs.Choice.{cases}
-use borrow.Author.Rules.{rules}
 use mathlib.Core.Path.{◌∙◌}
 use Rattle.receiver.proofs.restart.Goals as goal
 

@@ -1,16 +1,12 @@
 -- The loop has made j calls. Assumes nothing.
-use Prim.Native.Nat.{ℕ, ◌+◌, ◌-◌, ◌*◌, ◌≤◌}
-use mathlib.Core.Path.{◌≡◌, refl, sym, ap, ◌∙◌}
+use Prim.Native.Nat.{ℕ}
+use mathlib.Core.Path.{◌≡◌, refl, ap, ◌∙◌}
 use native.Mathlib.Omega.{arith}
 use mir.Facts.{to_z-of_z}
 use mir.Syntax.{w64}
-use lib.ListN.{length}
-use lib.IntN.{ℤ, pos}
-use Rattle.receiver.specs.Answers.{new_acc, new_answer, points_answer}
 use Rattle.receiver.specs.Feed.{Block}
 use Rattle.receiver_bench.specs.Streams.{Flow, feed_many, flow, lent_of, new_flow, received}
 use Rattle.receiver_bench.proofs.Laws.{feed_more, new_flow_lem}
-use borrow.Author.Rules.{rules}
 use Rattle.receiver_bench.proofs.measure_receive.Goals as goal
 
 pub loop-j-init : goal.loop-j-init

@@ -1,14 +1,7 @@
-use Prim.Native.Nat.{ℕ, ◌+◌, ◌-◌, ◌*◌, ◌≤◌}
-use mathlib.Core.Path.{◌≡◌, refl, sym, ap, ◌∙◌}
-use native.Mathlib.Omega.{arith}
-use mir.Facts.{to_z-of_z}
+use Prim.Native.Nat.{◌-◌, ◌*◌, ◌≤◌}
+use mathlib.Core.Path.{◌≡◌}
 use lib.ListN.{length}
-use lib.IntN.{ℤ, pos}
-use Rattle.receiver.specs.Answers.{new_acc, new_answer, points_answer}
-use Rattle.receiver.specs.Feed.{Block}
-use Rattle.receiver_bench.specs.Streams.{Flow, feed_many, flow, lent_of, new_flow, received}
-use Rattle.receiver_bench.proofs.Laws.{feed_more, new_flow_lem}
-use borrow.Author.Rules.{rules}
+use Rattle.receiver_bench.specs.Streams.{feed_many, flow, lent_of}
 use Rattle.receiver_bench.proofs.measure_receive.Given as goal
 
 abbrev pub invariant-loop-j : goal.invariant-loop-j

@@ -1,16 +1,13 @@
 -- The loop has taken i symbols. Assumes nothing.
-use Prim.Native.Nat.{ℕ, ◌+◌, ◌-◌, ◌*◌, ◌/◌, ◌≤◌}
-use mathlib.Core.Path.{◌≡◌, refl, sym, ap, ◌∙◌}
+use Prim.Native.Nat.{ℕ, ◌/◌}
+use mathlib.Core.Path.{◌≡◌, refl, ap, ◌∙◌}
 use native.Mathlib.Omega.{arith}
 use lib.ListN.{length}
-use lib.IntN.{ℤ, pos}
 use mir.Facts.{to_z-of_z}
 use mir.Syntax.{w8, w64}
-use Rattle.receiver.specs.Answers.{new_acc, new_answer, points_answer}
 use Rattle.receiver.specs.Feed.{Block}
 use Rattle.receiver_bench.specs.Streams.{Flow, flow, lent_of, new_flow, received, symbol_many}
 use Rattle.receiver_bench.proofs.Laws.{symbol_more, new_flow_lem}
-use borrow.Author.Rules.{rules}
 use Rattle.receiver_bench.proofs.measure_symbols.Goals as goal
 
 pub loop-i-init : goal.loop-i-init

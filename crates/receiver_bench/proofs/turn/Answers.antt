@@ -1,12 +1,7 @@
 -- The rest of a stream. Assumes nothing.
-use mathlib.Core.Path.{◌≡◌, refl, sym, ap, ◌∙◌}
-use native.Mathlib.Omega.{arith}
-use lib.ListN.{length}
-use Rattle.receiver.specs.Symbol.{Lent}
 use Rattle.receiver.specs.Feed.{Block}
 use Rattle.receiver_bench.specs.Streams.{lent_of, rest_of}
 use Rattle.receiver_bench.proofs.Laws.{lent_eq, rest_is, rest_within}
-use borrow.Author.Rules.{rules}
 use Rattle.receiver_bench.proofs.turn.Goals as goal
 
 pub returns : goal.returns

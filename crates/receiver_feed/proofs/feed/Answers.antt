@@ -1,8 +1,7 @@
 -- All turns, or a refusal. Assumes nothing.
-use mathlib.Core.Path.{◌≡◌, sym, ap, ◌∙◌}
+use mathlib.Core.Path.{sym, ◌∙◌}
 use lib.ListN.{length}
 use Rattle.receiver_feed.proofs.Stand.{feed-end, feed-refused, standing_known}
-use borrow.Author.Rules.{rules}
 use Rattle.receiver_feed.proofs.feed.Goals as goal
 
 pub all-t-requires : goal.all-t-requires

@@ -1,6 +1,5 @@
 -- `receiver_play::still` meets its contract. Assumes nothing.
 use Rattle.receiver_play.specs.Play.{quiet}
-use borrow.Author.Rules.{rules}
 use Rattle.receiver_play.proofs.still.Goals as goal
 
 pub returns : goal.returns

@@ -1,6 +1,5 @@
 -- `receiver_play::stops` meets its contract. Assumes nothing.
 use Rattle.receiver_play.specs.Play.{stops_at}
-use borrow.Author.Rules.{rules}
 use Rattle.receiver_play.proofs.stops.Goals as goal
 
 pub returns : goal.returns

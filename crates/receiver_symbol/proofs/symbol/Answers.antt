@@ -2,7 +2,6 @@
 use Rattle.receiver_symbol.proofs.Ready.{soon_known}
 use Rattle.receiver_symbol.proofs.Symbols.{answer-soon, lent-soon}
 use Rattle.receiver.specs.Symbol.{Input, Lent}
-use borrow.Author.Rules.{rules}
 use lib.ListN.{length}
 use mathlib.Core.Path.{◌∙◌, sym}
 use mir.Facts.{to_z-of_z}

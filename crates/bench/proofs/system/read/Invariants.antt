@@ -1,8 +1,6 @@
-use mathlib.Core.Path.{◌≡◌, sym}
-use lib.Seq.{length-take-le}
+use mathlib.Core.Path.{◌≡◌}
 use Prim.Native.Nat.{◌≤◌}
 use lib.ListN.{length}
-use borrow.Author.Rules.{rules}
 use Rattle.bench.proofs.system.read.Given as goal
 
 abbrev pub invariant-loop-turns : goal.invariant-loop-turns

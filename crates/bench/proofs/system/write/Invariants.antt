@@ -1,9 +1,7 @@
 use mathlib.Core.Bool.{true}
-use mathlib.Core.Path.{◌≡◌, sym}
+use mathlib.Core.Path.{◌≡◌}
 use Prim.Native.Nat.{◌≤◌}
 use lib.ListN.{length}
-use borrow.Author.Rules.{rules}
-use borrow.Author.Tests.{eqb-true}
 use Rattle.bench.proofs.system.write.Given as goal
 
 abbrev pub invariant-loop-turns : goal.invariant-loop-turns

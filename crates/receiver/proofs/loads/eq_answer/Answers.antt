@@ -1,7 +1,6 @@
 -- `receiver::loads::eq_answer` meets its contract. Assumes nothing.
 use Rattle.receiver.specs.Answers.{eq_answer}
 use Rattle.laws.specs.Choice.{cases}
-use borrow.Author.Rules.{rules}
 use Rattle.receiver.proofs.loads.eq_answer.Goals as goal
 
 pub returns-then-receiver_within : goal.returns-then-receiver_within

@@ -1,12 +1,10 @@
 -- `receiver::loads::filled` meets its contract. Assumes nothing.
 use Rattle.receiver.proofs.Laws.{filled_end, filled_next}
-use Prim.Native.Nat.{◌-◌, ◌<◌, ◌^◌, ◌≤◌}
+use Prim.Native.Nat.{◌<◌, ◌^◌}
 use Rattle.laws.proofs.Size.{back}
-use borrow.Author.Rules.{rules}
 use lib.IntN.{pos}
-use lib.ListN.{get_or, length, replicate, take}
+use lib.ListN.{get_or, length}
 use lib.Signed.{mag}
-use mathlib.Core.List.{◌++◌}
 use mathlib.Core.Path.{◌∙◌, ◌≡◌, refl}
 use mir.Syntax.{w16}
 use native.Mathlib.Omega.{arith}

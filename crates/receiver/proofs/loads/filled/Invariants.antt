@@ -1,14 +1,8 @@
-use Rattle.receiver.proofs.Laws.{filled_end, filled_next}
-use Prim.Native.Nat.{◌-◌, ◌<◌, ◌^◌, ◌≤◌}
-use Rattle.laws.proofs.Size.{back}
-use borrow.Author.Rules.{rules}
+use Prim.Native.Nat.{◌-◌, ◌≤◌}
 use lib.IntN.{pos}
-use lib.ListN.{get_or, length, replicate, take}
-use lib.Signed.{mag}
+use lib.ListN.{length, replicate, take}
 use mathlib.Core.List.{◌++◌}
-use mathlib.Core.Path.{◌∙◌, ◌≡◌, refl}
-use mir.Syntax.{w16}
-use native.Mathlib.Omega.{arith}
+use mathlib.Core.Path.{◌≡◌}
 use Rattle.receiver.proofs.loads.filled.Given as goal
 
 abbrev pub invariant-loop-k : goal.invariant-loop-k

@@ -1,6 +1,5 @@
 -- `receiver::loads::loaded_points` meets its contract. Assumes nothing.
 use Rattle.receiver.specs.Answers.{loaded_points}
-use borrow.Author.Rules.{rules}
 use mathlib.Core.Path.{◌∙◌}
 use mir.Facts.{to_z-of_z}
 use mir.Syntax.{w64}

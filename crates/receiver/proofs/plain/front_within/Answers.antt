@@ -1,6 +1,5 @@
 -- `receiver::plain::front_within` meets its contract. Assumes nothing.
 use Rattle.receiver.specs.Ranges.{front_within}
-use borrow.Author.Rules.{rules}
 use Rattle.receiver.proofs.plain.front_within.Goals as goal
 
 pub returns : goal.returns

@@ -1,6 +1,5 @@
 -- `receiver::plain::receiver_within` meets its contract. Assumes nothing.
 use Rattle.receiver.specs.Ranges.{receiver_in_range}
-use borrow.Author.Rules.{rules}
 use Rattle.receiver.proofs.plain.receiver_within.Goals as goal
 
 pub returns : goal.returns

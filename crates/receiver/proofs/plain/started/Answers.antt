@@ -1,7 +1,6 @@
 -- `receiver::plain::started` meets its contract. Assumes nothing.
 use Rattle.laws.proofs.Size.{back}
 use Rattle.receiver.specs.Started.{started}
-use borrow.Author.Rules.{rules}
 use mir.Syntax.{w32}
 use Rattle.receiver.proofs.plain.started.Goals as goal
 

@@ -1,6 +1,5 @@
 -- `receiver::refusals::bad_points` meets its contract. Assumes nothing.
 use Prim.Native.Nat.{◌%◌, ◌*◌, ◌^◌, ◌≤◌, ℕ}
-use borrow.Author.Rules.{rules}
 use borrow.Author.Tests.{le-ltb, lt-ltb}
 use lib.Pow.{pow_mono}
 use mathlib.Core.Path.{◌≡◌}

@@ -1,7 +1,6 @@
 -- `receiver::refusals::load_points` meets its contract. Assumes nothing.
 use Rattle.receiver.specs.Answers.{points_refusal}
 use Rattle.laws.specs.Choice.{cases}
-use borrow.Author.Rules.{rules}
 use mir.Facts.{to_z-of_z}
 use mir.Syntax.{w64}
 use Rattle.receiver.proofs.refusals.load_points.Goals as goal

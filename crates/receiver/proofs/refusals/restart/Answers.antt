@@ -2,7 +2,6 @@
 use Rattle.receiver.specs.Answers.{restart_refusal}
 use Rattle.laws.specs.Choice.{cases}
 use Rattle.receiver.specs.Symbol.{next_of}
-use borrow.Author.Rules.{rules}
 use Rattle.receiver.proofs.refusals.restart.Goals as goal
 
 pub returns-then-before : goal.returns-then-before

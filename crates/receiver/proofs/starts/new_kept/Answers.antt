@@ -1,7 +1,6 @@
 -- `receiver::starts::new_kept` meets its contract. Assumes nothing.
 use Rattle.eq.specs.Eq.{new_eq, started_eq}
 use Rattle.receiver.specs.Started.{new_kept}
-use borrow.Author.Rules.{rules}
 use mir.Facts.{to_z-of_z}
 use mir.Syntax.{w32}
 use Rattle.receiver.proofs.starts.new_kept.Goals as goal

@@ -1,6 +1,5 @@
 -- `receiver::told::any_event` meets its contract. Assumes nothing.
 use Rattle.receiver.specs.Feed.{any_event}
-use borrow.Author.Rules.{rules}
 use Rattle.receiver.proofs.told.any_event.Goals as goal
 
 pub returns : goal.returns

@@ -1,6 +1,5 @@
 -- `receiver::told::is_event` meets its contract. Assumes nothing.
 use Rattle.sync_step.specs.Events.{is_nothing}
-use borrow.Author.Rules.{rules}
 use Rattle.receiver.proofs.told.is_event.Goals as goal
 
 pub returns-in-Nothing : goal.returns-in-Nothing

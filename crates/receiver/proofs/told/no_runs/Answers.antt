@@ -2,7 +2,6 @@
 use Rattle.receiver.specs.Answers.{no_runs}
 use Rattle.receiver_slot.specs.Slot.{no_run}
 use mathlib.Core.Path.{refl}
-use borrow.Author.Rules.{rules}
 use Rattle.receiver.proofs.told.no_runs.Goals as goal
 
 pub returns : goal.returns

@@ -1,6 +1,5 @@
 -- `receiver::told::tells` meets its contract. Assumes nothing.
 use Rattle.receiver.specs.Feed.{tells_any}
-use borrow.Author.Rules.{rules}
 use Rattle.receiver.proofs.told.tells.Goals as goal
 
 pub returns : goal.returns

@@ -1,6 +1,5 @@
 -- `receiver_bounds::plain::back_within` meets its contract. Assumes nothing.
 use Rattle.receiver_bounds.specs.Bounds.{back_within}
-use borrow.Author.Rules.{rules}
 use Rattle.receiver_bounds.proofs.plain.back_within.Goals as goal
 
 pub returns : goal.returns

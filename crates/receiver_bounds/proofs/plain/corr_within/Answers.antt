@@ -2,7 +2,6 @@
 use Prim.Native.Nat.{◌<◌, ◌^◌}
 use Rattle.receiver_bounds.specs.Bounds.{corr_within}
 use Rattle.laws.proofs.Size.{back}
-use borrow.Author.Rules.{rules}
 use lib.Signed.{mag}
 use mir.Syntax.{w32}
 use Rattle.receiver_bounds.proofs.plain.corr_within.Goals as goal

@@ -2,7 +2,6 @@
 use Rattle.receiver_bounds.specs.Bounds.{eq_within, sums_within}
 use Rattle.eq_train.proofs.Tested.{and_true}
 use Rattle.laws.specs.Choice.{cases, if_no}
-use borrow.Author.Rules.{rules}
 use lib.Dec.{eqb}
 use mathlib.Core.Bool.{◌||◌, true}
 use mathlib.Core.Path.{sym}

@@ -1,6 +1,5 @@
 -- `receiver_bounds::plain::held_within` meets its contract. Assumes nothing.
 use Rattle.receiver_bounds.specs.Bounds.{held_within}
-use borrow.Author.Rules.{rules}
 use Rattle.receiver_bounds.proofs.plain.held_within.Goals as goal
 
 pub returns : goal.returns

@@ -1,7 +1,6 @@
 -- `receiver_bounds::plain::last_within` meets its contract. Assumes nothing.
 use Rattle.receiver_bounds.specs.Bounds.{last_within}
 use Rattle.laws.specs.Choice.{cases}
-use borrow.Author.Rules.{rules}
 use Rattle.receiver_bounds.proofs.plain.last_within.Goals as goal
 
 pub returns-in-Never : goal.returns-in-Never

@@ -1,6 +1,5 @@
 -- `receiver_bounds::plain::meta_within` meets its contract. Assumes nothing.
 use Rattle.receiver_bounds.specs.Bounds.{meta_within}
-use borrow.Author.Rules.{rules}
 use Rattle.receiver_bounds.proofs.plain.meta_within.Goals as goal
 
 pub returns : goal.returns

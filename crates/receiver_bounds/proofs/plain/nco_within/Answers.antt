@@ -1,5 +1,4 @@
 -- `receiver_bounds::plain::nco_within` meets its contract: one case of the trail at each return. Assumes nothing.
-use borrow.Author.Rules.{rules}
 use Rattle.receiver_bounds.specs.Bounds.{trail_within, nco_within}
 use Rattle.receiver_bounds.proofs.plain.nco_within.Goals as goal
 

@@ -1,7 +1,6 @@
 -- `receiver_bounds::plain::phase_within` meets its contract. Assumes nothing.
 use Rattle.receiver_bounds.specs.Bounds.{phase_within}
 use Rattle.laws.specs.Choice.{cases}
-use borrow.Author.Rules.{rules}
 use Rattle.receiver_bounds.proofs.plain.phase_within.Goals as goal
 
 pub returns-in-Idle : goal.returns-in-Idle

@@ -1,12 +1,9 @@
 -- `receiver_bounds::plain::right_within` meets its contract. Assumes nothing.
 use Rattle.receiver_bounds.proofs.Laws.{all_end, all_next}
-use Prim.Native.Nat.{◌-◌, ◌≤◌}
-use Rattle.receiver_bounds.specs.Bounds.{all_within}
 use Rattle.laws.proofs.Size.{back, within_abs}
-use borrow.Author.Rules.{rules}
 use lib.Dec.{leb}
 use lib.IntN.{nat_abs, negsuc, pos}
-use lib.ListN.{drop, get_or, length}
+use lib.ListN.{get_or, length}
 use lib.Signed.{le_z}
 use mathlib.Core.Bool.{◌&&◌}
 use mathlib.Core.Path.{◌∙◌, ◌≡◌, refl, sym}

@@ -1,7 +1,6 @@
 -- `receiver_bounds::plain::stage_within` meets its contract. Assumes nothing.
 use Rattle.receiver_bounds.specs.Bounds.{stage_within}
 use Rattle.laws.specs.Choice.{cases}
-use borrow.Author.Rules.{rules}
 use Rattle.receiver_bounds.proofs.plain.stage_within.Goals as goal
 
 pub returns-in-Before : goal.returns-in-Before

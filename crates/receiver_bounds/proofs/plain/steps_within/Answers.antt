@@ -1,6 +1,5 @@
 -- `receiver_bounds::plain::steps_within` meets its contract. Assumes nothing.
 use Prim.Native.Nat.{◌<◌, ◌^◌}
-use borrow.Author.Rules.{rules}
 use lib.Signed.{mag}
 use mir.Syntax.{w64}
 use Rattle.laws.proofs.Size.{back}

@@ -5,9 +5,8 @@ use mir.Facts.{to_z-of_z}
 use mir.Syntax.{w16}
 use mathlib.Core.Path.{sym}
 use borrow.Author.Tests.{lt-ltb, le-ltb}
-use Rattle.laws.specs.Choice.{cases, if_yes, if_no}
+use Rattle.laws.specs.Choice.{if_yes, if_no}
 use Rattle.receiver_feed.specs.Quiet.{kept_at}
-use borrow.Author.Rules.{rules}
 use Rattle.receiver_feed.proofs.quiet.keep.Goals as goal
 
 pub bounds-store-c-then-c-lt9296 : goal.bounds-store-c-then-c-lt9296

@@ -1,9 +1,7 @@
 -- Both ways by the slot phase. Assumes nothing.
-use mathlib.Core.Path.{◌≡◌}
 use mir.Facts.{to_z-of_z}
 use mir.Syntax.{w32}
 use Rattle.receiver_feed.specs.Quiet.{place_in}
-use borrow.Author.Rules.{rules}
 use Rattle.receiver_feed.proofs.quiet.moved.Goals as goal
 
 pub quiet-requires-in-Holds : goal.quiet-requires-in-Holds

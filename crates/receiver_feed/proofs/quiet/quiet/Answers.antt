@@ -4,20 +4,16 @@ use mir.Syntax.{w8, w16, w64}
 use mir.Val.{of_z}
 use Rattle.receiver_feed.specs.Quiet.{Course, Moving}
 use Rattle.receiver_feed.proofs.Calm.{some_moved, tally_sum}
-use Prim.Native.Nat.{ℕ, ◌+◌, ◌-◌, ◌*◌, ◌≤◌, ◌<◌}
-use mathlib.Core.Bool.{true}
-use mathlib.Core.Path.{◌≡◌, refl, sym, ap, ◌∙◌}
+use mathlib.Core.Path.{refl, sym, ap, ◌∙◌}
 use Rattle.angles.specs.Angles.{turned_by}
 use native.Mathlib.Omega.{arith}
-use lib.ListN.{length}
 use mir.Facts.{to_z-of_z}
 use mir.Val.{to_z}
 use mir.Syntax.{w32}
-use Rattle.laws.specs.Choice.{when◌then◌else◌, if_yes, if_no}
-use Rattle.receiver_bounds.specs.Bounds.{all_within, tally_within}
-use Rattle.receiver_feed.specs.Quiet.{Fits, moves, moving}
+use Rattle.laws.specs.Choice.{if_yes}
+use Rattle.receiver_bounds.specs.Bounds.{tally_within}
+use Rattle.receiver_feed.specs.Quiet.{moves, moving}
 use Rattle.receiver_feed.proofs.Calm.{end_most, first_fits, fits_more, goes_on_lem, moves_more, rolled-within}
-use borrow.Author.Rules.{rules}
 use Rattle.receiver_feed.proofs.quiet.quiet.Goals as goal
 
 pub loop-k-init : goal.loop-k-init

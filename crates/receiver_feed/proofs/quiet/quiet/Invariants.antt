@@ -1,22 +1,10 @@
-use Rattle.laws.proofs.Size.{arg, at, fits, num}
-use mir.Syntax.{w16, w64}
-use mir.Val.{of_z}
-use Rattle.receiver_feed.specs.Quiet.{Course, Moving}
-use Rattle.receiver_feed.proofs.Calm.{some_moved, tally_sum}
-use Prim.Native.Nat.{ℕ, ◌+◌, ◌-◌, ◌*◌, ◌≤◌, ◌<◌}
+use Prim.Native.Nat.{ℕ, ◌-◌, ◌≤◌, ◌<◌}
 use mathlib.Core.Bool.{true}
-use mathlib.Core.Path.{◌≡◌, refl, sym, ap, ◌∙◌}
-use Rattle.angles.specs.Angles.{turned_by}
-use native.Mathlib.Omega.{arith}
+use mathlib.Core.Path.{◌≡◌}
 use lib.ListN.{length}
-use mir.Facts.{to_z-of_z}
-use mir.Val.{to_z}
-use mir.Syntax.{w32}
-use Rattle.laws.specs.Choice.{when◌then◌else◌, if_yes, if_no}
+use Rattle.laws.specs.Choice.{when◌then◌else◌}
 use Rattle.receiver_bounds.specs.Bounds.{all_within, tally_within}
 use Rattle.receiver_feed.specs.Quiet.{Fits, moves, moving}
-use Rattle.receiver_feed.proofs.Calm.{end_most, first_fits, fits_more, goes_on_lem, moves_more, rolled-within}
-use borrow.Author.Rules.{rules}
 use Rattle.receiver_feed.proofs.quiet.quiet.Given as goal
 
 abbrev pub invariant-loop-k : goal.invariant-loop-k

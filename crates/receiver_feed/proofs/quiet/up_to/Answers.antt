@@ -1,6 +1,5 @@
 -- `receiver_feed::quiet::up_to` meets its contract. Assumes nothing.
 use Rattle.laws.specs.Choice.{cases}
-use borrow.Author.Rules.{rules}
 use Rattle.receiver_feed.proofs.quiet.up_to.Goals as goal
 
 pub returns-then-tally_within : goal.returns-then-tally_within

@@ -6,7 +6,6 @@ use Rattle.receiver_feed.proofs.Calm.{run_in}
 use Rattle.sync_step.proofs.Laws.{run_ready}
 use Rattle.receiver_bounds.proofs.Ready.{run-wide}
 use mathlib.Core.Path.{sym, ◌∙◌}
-use borrow.Author.Rules.{rules}
 use Rattle.receiver_feed.proofs.ready.calm.Goals as goal
 
 pub reach-requires : goal.reach-requires

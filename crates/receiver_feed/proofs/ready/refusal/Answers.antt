@@ -2,7 +2,6 @@
 use Rattle.laws.specs.Choice.{cases}
 use Rattle.receiver.specs.Symbol.{next_of}
 use Rattle.receiver_symbol.specs.Parts.{state_refusal}
-use borrow.Author.Rules.{rules}
 use Rattle.receiver_feed.proofs.ready.refusal.Goals as goal
 
 pub returns-then-past : goal.returns-then-past

@@ -1,7 +1,6 @@
 -- `receiver_feed::ready::standing` meets its contract. Assumes nothing.
 use Rattle.laws.specs.Choice.{cases}
 use Rattle.receiver_feed.specs.Turns.{standing_by}
-use borrow.Author.Rules.{rules}
 use Rattle.receiver_feed.proofs.ready.standing.Goals as goal
 
 pub returns-then-receiver_within : goal.returns-then-receiver_within

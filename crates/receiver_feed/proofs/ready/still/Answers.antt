@@ -1,6 +1,5 @@
 -- `receiver_feed::ready::still` meets its contract. Assumes nothing.
 use mathlib.Core.Path.{sym}
-use borrow.Author.Rules.{rules}
 use Rattle.receiver_feed.proofs.ready.still.Goals as goal
 
 pub returns-then-used-eq0 : goal.returns-then-used-eq0

@@ -1,6 +1,5 @@
 -- `receiver_feed::stretch::passed` meets its contract. Assumes nothing.
 use Rattle.receiver_feed.specs.Quiet.{passed_by}
-use borrow.Author.Rules.{rules}
 use Rattle.receiver_feed.proofs.stretch.passed.Goals as goal
 
 pub returns : goal.returns

@@ -1,11 +1,9 @@
 -- `receiver_feed::stretch::phase_on` meets its contract. Assumes nothing.
-use Rattle.laws.specs.Choice.{cases}
 use native.Mathlib.Omega.{arith}
 use Prim.Native.Nat.{ℕ, ◌+◌, min}
 use mathlib.Core.Path.{◌≡◌, ap}
 use Rattle.phase.specs.declared.SlotPhase.TheVariants.{Holds}
 use Rattle.receiver_feed.specs.Quiet.{phase_on}
-use borrow.Author.Rules.{rules}
 use Rattle.receiver_feed.proofs.stretch.phase_on.Goals as goal
 
 pub returns-in-Idle : goal.returns-in-Idle

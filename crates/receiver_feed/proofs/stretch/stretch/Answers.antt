@@ -1,12 +1,10 @@
 -- What the loop leaves, put together. Assumes nothing.
-use Prim.Native.Nat.{ℕ}
-use mathlib.Core.Path.{◌≡◌, refl, sym, ap, subst, ◌∙◌}
+use mathlib.Core.Path.{refl, ap, subst, ◌∙◌}
 use native.Mathlib.Omega.{arith}
 use mir.Facts.{to_z-of_z}
 use mir.Syntax.{w32}
 use Rattle.receiver_feed.specs.Quiet.{Fits, Moving, passed_by}
 use Rattle.receiver_feed.proofs.Calm.{figures_in, moves_from_lem, passed_any, place_in_lem, tally_in, window_in}
-use borrow.Author.Rules.{rules}
 use Rattle.receiver_feed.proofs.stretch.stretch.Goals as goal
 
 pub moved-x-requires : goal.moved-x-requires

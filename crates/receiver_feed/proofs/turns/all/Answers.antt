@@ -1,15 +1,10 @@
 -- What is left to do after each turn. Assumes nothing.
 use Rattle.receiver_feed.proofs.Stand.{end_within, stands_same, turn_less}
-use Prim.Native.Nat.{ℕ, ◌-◌, ◌/◌, ◌≤◌}
-use mathlib.Core.Bool.{true, false}
-use mathlib.Core.Path.{◌≡◌, refl, sym, ap, ◌∙◌}
+use mathlib.Core.Bool.{false}
+use mathlib.Core.Path.{refl, sym, ◌∙◌}
 use native.Mathlib.Omega.{arith}
-use lib.ListN.{length}
-use Rattle.laws.specs.Choice.{when◌then◌else◌, if_no}
-use Rattle.receiver.specs.Ranges.{receiver_in_range}
-use Rattle.receiver_feed.specs.Turns.{Stands, rest_by, stand_from}
+use Rattle.laws.specs.Choice.{if_no}
 use Rattle.receiver_feed.proofs.Stand.{first_rest, not_done, rest_end, rest_on}
-use borrow.Author.Rules.{rules}
 use Rattle.receiver_feed.proofs.turns.all.Goals as goal
 
 pub loop-i-init : goal.loop-i-init

@@ -1,14 +1,10 @@
-use Rattle.receiver_feed.proofs.Stand.{end_within, stands_same, turn_less}
-use Prim.Native.Nat.{ℕ, ◌-◌, ◌/◌, ◌≤◌}
+use Prim.Native.Nat.{◌-◌, ◌≤◌}
 use mathlib.Core.Bool.{true, false}
-use mathlib.Core.Path.{◌≡◌, refl, sym, ap, ◌∙◌}
-use native.Mathlib.Omega.{arith}
+use mathlib.Core.Path.{◌≡◌}
 use lib.ListN.{length}
-use Rattle.laws.specs.Choice.{when◌then◌else◌, if_no}
+use Rattle.laws.specs.Choice.{when◌then◌else◌}
 use Rattle.receiver.specs.Ranges.{receiver_in_range}
 use Rattle.receiver_feed.specs.Turns.{Stands, rest_by, stand_from}
-use Rattle.receiver_feed.proofs.Stand.{first_rest, not_done, rest_end, rest_on}
-use borrow.Author.Rules.{rules}
 use Rattle.receiver_feed.proofs.turns.all.Given as goal
 
 abbrev pub invariant-loop-i : goal.invariant-loop-i

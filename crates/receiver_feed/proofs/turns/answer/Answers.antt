@@ -1,7 +1,6 @@
 -- `receiver_feed::turns::answer` meets its contract. Assumes nothing.
 use Rattle.laws.specs.Choice.{cases}
 use Rattle.receiver_feed.specs.Turns.{answer_of}
-use borrow.Author.Rules.{rules}
 use Rattle.receiver_feed.proofs.turns.answer.Goals as goal
 
 pub returns-then-u-eq0 : goal.returns-then-u-eq0

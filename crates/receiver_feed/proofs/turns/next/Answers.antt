@@ -1,8 +1,7 @@
 -- A turn of a receiver in range, or its end. Assumes nothing.
-use mathlib.Core.Path.{◌≡◌, sym, ◌∙◌}
+use mathlib.Core.Path.{sym, ◌∙◌}
 use native.Mathlib.Omega.{arith}
 use Rattle.receiver_feed.proofs.Stand.{out_of_range, stopped_end}
-use borrow.Author.Rules.{rules}
 use Rattle.receiver_feed.proofs.turns.next.Goals as goal
 
 pub turn-requires : goal.turn-requires

@@ -1,6 +1,5 @@
 -- `receiver_feed::turns::refused` meets its contract. Assumes nothing.
 use Rattle.receiver_feed.specs.Turns.{refused_feed}
-use borrow.Author.Rules.{rules}
 use Rattle.receiver_feed.proofs.turns.refused.Goals as goal
 
 pub returns : goal.returns

@@ -1,12 +1,11 @@
 -- One symbol, or why it is refused. Assumes nothing.
-use mathlib.Core.Path.{◌≡◌, sym, ◌∙◌}
+use mathlib.Core.Path.{sym, ◌∙◌}
 use native.Mathlib.Omega.{arith}
 use lib.ListN.{length}
 use mir.Facts.{to_z-of_z}
 use mir.Syntax.{w8}
 use Rattle.receiver_symbol.proofs.Ready.{soon_known}
 use Rattle.receiver_feed.proofs.Stand.{single-end, state_soon, stopped_end}
-use borrow.Author.Rules.{rules}
 use Rattle.receiver_feed.proofs.turns.single.Goals as goal
 
 pub known-a-requires : goal.known-a-requires

@@ -1,6 +1,5 @@
 -- `receiver_feed::turns::stopped` meets its contract. Assumes nothing.
 use Rattle.receiver_feed.specs.Turns.{stopped_at}
-use borrow.Author.Rules.{rules}
 use Rattle.receiver_feed.proofs.turns.stopped.Goals as goal
 
 pub returns : goal.returns

@@ -1,7 +1,6 @@
 -- `receiver_feed::turns::told` meets its contract. Assumes nothing.
 use Rattle.laws.specs.Choice.{cases}
 use Rattle.receiver_feed.specs.Turns.{told_by}
-use borrow.Author.Rules.{rules}
 use Rattle.receiver_feed.proofs.turns.told.Goals as goal
 
 pub returns-then-n-eq0 : goal.returns-then-n-eq0

@@ -1,12 +1,11 @@
 -- What tells nothing, then a symbol; or one of both. Assumes nothing.
 use Prim.Native.Nat.{◌-◌}
-use mathlib.Core.Path.{◌≡◌, refl, sym, ap, ◌∙◌}
+use mathlib.Core.Path.{◌≡◌, refl, sym, ◌∙◌}
 use native.Mathlib.Omega.{arith}
 use Rattle.sync_corr.proofs.Laws.{rows_small}
 use Rattle.receiver_feed.specs.Turns.{calm_of}
 use Rattle.receiver_feed.proofs.Calm.{calm_known, tally_in}
 use Rattle.receiver_feed.proofs.Stand.{both_end, stands_same, stretch-end, stretch-left}
-use borrow.Author.Rules.{rules}
 use Rattle.receiver_feed.proofs.turns.turn.Goals as goal
 
 pub single-requires : goal.single-requires

@@ -1,6 +1,5 @@
 -- `receiver_feed::turns::until` meets its contract. Assumes nothing.
 use Rattle.laws.specs.Choice.{cases}
-use borrow.Author.Rules.{rules}
 use Rattle.receiver_feed.proofs.turns.until.Goals as goal
 
 pub returns-then-d : goal.returns-then-d

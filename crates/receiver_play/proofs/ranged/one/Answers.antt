@@ -2,7 +2,6 @@
 use Prim.Native.Nat.{◌*◌, ◌+◌}
 use Rattle.laws.proofs.Size.{back}
 use Rattle.receiver.specs.Feed.{input_at}
-use borrow.Author.Rules.{rules}
 use lib.IntN.{pos}
 use lib.ListN.{get_or}
 use mir.Syntax.{w8}

@@ -1,9 +1,7 @@
 -- `receiver_play::ranged::play` meets its contract. Assumes nothing.
-use Prim.Native.Nat.{◌+◌, ◌-◌, ◌≤◌}
+use Prim.Native.Nat.{◌+◌, ◌-◌}
 use Rattle.receiver_play.proofs.Laws.{told-on, told-quiet, told_stop}
-use Rattle.receiver_play.specs.Play.{block, lent_of, play_from}
-use borrow.Author.Rules.{rules}
-use lib.ListN.{length}
+use Rattle.receiver_play.specs.Play.{block, lent_of}
 use mathlib.Core.Path.{◌∙◌, ◌≡◌, refl}
 use native.Mathlib.Omega.{arith}
 use Rattle.receiver_play.proofs.ranged.play.Goals as goal

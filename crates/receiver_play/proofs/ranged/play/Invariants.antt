@@ -1,10 +1,7 @@
-use Prim.Native.Nat.{◌+◌, ◌-◌, ◌≤◌}
-use Rattle.receiver_play.proofs.Laws.{told-on, told-quiet, told_stop}
+use Prim.Native.Nat.{◌-◌, ◌≤◌}
 use Rattle.receiver_play.specs.Play.{block, lent_of, play_from}
-use borrow.Author.Rules.{rules}
 use lib.ListN.{length}
-use mathlib.Core.Path.{◌∙◌, ◌≡◌, refl}
-use native.Mathlib.Omega.{arith}
+use mathlib.Core.Path.{◌≡◌}
 use Rattle.receiver_play.proofs.ranged.play.Given as goal
 
 abbrev pub invariant-loop-i : goal.invariant-loop-i

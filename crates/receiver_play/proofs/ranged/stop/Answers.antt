@@ -1,7 +1,6 @@
 -- `receiver_play::ranged::stop` meets its contract. Assumes nothing.
 use Rattle.laws.specs.Choice.{cases}
 use Rattle.receiver_play.specs.Play.{stopped}
-use borrow.Author.Rules.{rules}
 use Rattle.receiver_play.proofs.ranged.stop.Goals as goal
 
 pub returns-then-a-eq0 : goal.returns-then-a-eq0

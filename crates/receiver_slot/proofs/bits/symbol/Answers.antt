@@ -6,7 +6,6 @@ use Rattle.demap.specs.Demap.{label_metric}
 use Rattle.demap.proofs.Blocks.{length_bits}
 use Rattle.receiver_slot.specs.Slot.{soft_of}
 use Rattle.receiver_slot.proofs.Steps.{put_none}
-use borrow.Author.Rules.{rules}
 use Rattle.receiver_slot.proofs.bits.symbol.Goals as goal
 
 pub main_symbol-requires : goal.main_symbol-requires

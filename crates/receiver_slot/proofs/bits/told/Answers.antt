@@ -4,7 +4,6 @@ use native.Mathlib.Omega.{arith}
 use Rattle.frame.specs.declared.Aligned.{Aligned}
 use Rattle.receiver_slot.specs.Slot.{aligned_by, soft_all}
 use Rattle.receiver_slot.proofs.Steps.{put_none, soft_given}
-use borrow.Author.Rules.{rules}
 use Rattle.receiver_slot.proofs.bits.told.Goals as goal
 
 pub symbol-requires : goal.symbol-requires

@@ -1,14 +1,11 @@
 -- `receiver_slot::groups::ahead` meets its contract: after t turns t symbols stand in front. Assumes nothing.
-use Prim.Native.Nat.{◌-◌, ◌*◌, ◌<◌, ◌≤◌}
-use borrow.Author.Rules.{rules}
-use lib.ListN.{drop, length, length-set, set, take}
+use Prim.Native.Nat.{◌-◌, ◌*◌, ◌<◌}
+use lib.ListN.{length-set, set}
 use lib.Signed.{mag}
-use mathlib.Core.List.{◌++◌}
 use mathlib.Core.Path.{◌≡◌, ◌∙◌}
 use mir.Syntax.{w16}
 use native.Mathlib.Omega.{arith}
 use Rattle.laws.proofs.Size.{back}
-use Rattle.receiver_slot.specs.Steps.{ahead_on}
 use Rattle.receiver_slot.proofs.Ahead.{ahead-start, ahead-turn}
 use Rattle.receiver_slot.proofs.groups.ahead.Goals as goal
 

@@ -1,14 +1,8 @@
-use Prim.Native.Nat.{◌-◌, ◌*◌, ◌<◌, ◌≤◌}
-use borrow.Author.Rules.{rules}
-use lib.ListN.{drop, length, length-set, set, take}
-use lib.Signed.{mag}
+use Prim.Native.Nat.{◌-◌, ◌*◌, ◌≤◌}
+use lib.ListN.{drop, length, take}
 use mathlib.Core.List.{◌++◌}
-use mathlib.Core.Path.{◌≡◌, ◌∙◌}
-use mir.Syntax.{w16}
-use native.Mathlib.Omega.{arith}
-use Rattle.laws.proofs.Size.{back}
+use mathlib.Core.Path.{◌≡◌}
 use Rattle.receiver_slot.specs.Steps.{ahead_on}
-use Rattle.receiver_slot.proofs.Ahead.{ahead-start, ahead-turn}
 use Rattle.receiver_slot.proofs.groups.ahead.Given as goal
 
 abbrev pub invariant-loop-t : goal.invariant-loop-t

@@ -1,9 +1,8 @@
 -- `receiver_slot::groups::closed` meets its contract: the loop has copied k numbers. Assumes nothing.
-use Prim.Native.Nat.{◌+◌, ◌-◌, ◌<◌, ◌≤◌, ◌^◌}
-use borrow.Author.Rules.{rules}
+use Prim.Native.Nat.{◌+◌, ◌<◌, ◌^◌}
 use lib.IntN.{pos}
-use lib.ListN.{drop, get_or, length, length-drop, length-set}
-use lib.Seq.{get_or-drop, paste, paste-zero}
+use lib.ListN.{drop, get_or, length-drop, length-set}
+use lib.Seq.{get_or-drop, paste-zero}
 use lib.Signed.{mag}
 use mathlib.Core.Path.{◌≡◌, sym, ◌∙◌}
 use mir.Syntax.{w16}

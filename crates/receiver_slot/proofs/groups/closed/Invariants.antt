@@ -1,14 +1,7 @@
-use Prim.Native.Nat.{◌+◌, ◌-◌, ◌<◌, ◌≤◌, ◌^◌}
-use borrow.Author.Rules.{rules}
-use lib.IntN.{pos}
-use lib.ListN.{drop, get_or, length, length-drop, length-set}
-use lib.Seq.{get_or-drop, paste, paste-zero}
-use lib.Signed.{mag}
-use mathlib.Core.Path.{◌≡◌, sym, ◌∙◌}
-use mir.Syntax.{w16}
-use native.Mathlib.Omega.{arith}
-use Rattle.laws.proofs.Size.{back}
-use Rattle.receiver_slot.proofs.Ahead.{closed_is, copy_turn}
+use Prim.Native.Nat.{◌-◌, ◌≤◌}
+use lib.ListN.{drop, length}
+use lib.Seq.{paste}
+use mathlib.Core.Path.{◌≡◌}
 use Rattle.receiver_slot.proofs.groups.closed.Given as goal
 
 abbrev pub invariant-loop-k : goal.invariant-loop-k

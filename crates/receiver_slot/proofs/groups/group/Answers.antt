@@ -8,7 +8,6 @@ use lib.ListN.{drop, length, length-take, take}
 use lib.Seq.{take_at}
 use Rattle.receiver_slot.specs.Steps.{outs_on}
 use Rattle.receiver_slot.proofs.Ahead.{filled, group-outs, last_line, outs_long}
-use borrow.Author.Rules.{rules}
 use Rattle.receiver_slot.proofs.groups.group.Goals as goal
 
 pub ahead-requires : goal.ahead-requires

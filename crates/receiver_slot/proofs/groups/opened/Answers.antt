@@ -1,9 +1,8 @@
 -- `receiver_slot::groups::opened` meets its contract: the loop has copied k numbers. Assumes nothing.
-use Prim.Native.Nat.{◌+◌, ◌-◌, ◌<◌, ◌≤◌, ◌^◌}
-use borrow.Author.Rules.{rules}
+use Prim.Native.Nat.{◌+◌, ◌<◌, ◌^◌}
 use lib.IntN.{pos}
-use lib.ListN.{get_or, length, length-set, replicate}
-use lib.Seq.{paste, paste-zero}
+use lib.ListN.{get_or, length-set, replicate}
+use lib.Seq.{paste-zero}
 use lib.Signed.{mag}
 use mathlib.Core.Path.{◌≡◌, refl, ◌∙◌}
 use mir.Syntax.{w16}

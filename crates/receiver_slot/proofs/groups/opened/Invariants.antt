@@ -1,14 +1,8 @@
-use Prim.Native.Nat.{◌+◌, ◌-◌, ◌<◌, ◌≤◌, ◌^◌}
-use borrow.Author.Rules.{rules}
+use Prim.Native.Nat.{◌-◌, ◌≤◌}
 use lib.IntN.{pos}
-use lib.ListN.{get_or, length, length-set, replicate}
-use lib.Seq.{paste, paste-zero}
-use lib.Signed.{mag}
-use mathlib.Core.Path.{◌≡◌, refl, ◌∙◌}
-use mir.Syntax.{w16}
-use native.Mathlib.Omega.{arith}
-use Rattle.laws.proofs.Size.{back}
-use Rattle.receiver_slot.proofs.Ahead.{copy_turn, opened_is}
+use lib.ListN.{length, replicate}
+use lib.Seq.{paste}
+use mathlib.Core.Path.{◌≡◌}
 use Rattle.receiver_slot.proofs.groups.opened.Given as goal
 
 abbrev pub invariant-loop-k : goal.invariant-loop-k

@@ -1,6 +1,5 @@
 -- `receiver_slot::groups::stretch` meets its contract. Assumes nothing.
 use Rattle.laws.specs.Choice.{cases}
-use borrow.Author.Rules.{rules}
 use Rattle.receiver_slot.specs.Steps.{stretch_of}
 use Rattle.receiver_slot.proofs.groups.stretch.Goals as goal
 

@@ -1,6 +1,5 @@
 -- `receiver_slot::ranged::ended` meets its contract. Assumes nothing.
 use Rattle.receiver_slot.specs.Steps.{ended_of}
-use borrow.Author.Rules.{rules}
 use Rattle.receiver_slot.proofs.ranged.ended.Goals as goal
 
 pub returns : goal.returns

@@ -1,15 +1,14 @@
 -- `receiver_slot::ranged::first` meets its contract: after j turns back and buffer are those of the first j symbols. Assumes nothing.
 use mathlib.Core.Path.{◌≡◌, sym, ◌∙◌}
-use Prim.Native.Nat.{◌+◌, ◌-◌, ◌≤◌, ◌<◌}
+use Prim.Native.Nat.{◌+◌, ◌≤◌, ◌<◌}
 use native.Mathlib.Omega.{arith}
 use lib.ListN.{length}
-use Rattle.receiver_slot.specs.Slot.{aligned_by, soft_all, written_on}
-use Rattle.receiver_slot.specs.Steps.{back_at, soft_to}
+use Rattle.receiver_slot.specs.Slot.{aligned_by, soft_all}
+use Rattle.receiver_slot.specs.Steps.{soft_to}
 use Rattle.receiver_slot.proofs.Fits.{all_short}
 use Rattle.receiver_slot.proofs.Sized.{AllTo, push-ok-at}
 use Rattle.receiver_slot.proofs.Softs.{soft_fits}
 use Rattle.receiver_slot.proofs.Steps.{back_none, soft-none, soft-room, soft-next, turn-back, turn-place, turn-pushed, turn-soft, written_length, written_none}
-use borrow.Author.Rules.{rules}
 use Rattle.receiver_slot.proofs.ranged.first.Goals as goal
 
 pub loop-j-init : goal.loop-j-init

@@ -2,7 +2,6 @@
 use native.Mathlib.Omega.{arith}
 use Rattle.laws.specs.Choice.{cases}
 use Rattle.receiver_slot.specs.Full.{full_at}
-use borrow.Author.Rules.{rules}
 use Rattle.receiver_slot.proofs.ranged.full.Goals as goal
 
 pub overflow_add-result : goal.overflow_add-result

@@ -1,4 +1,3 @@
-use borrow.Author.Rules.{rules}
 use Rattle.receiver_slot.proofs.ranged.pushed.Goals as goal
 
 pub pushed-requires : goal.pushed-requires

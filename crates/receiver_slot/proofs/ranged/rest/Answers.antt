@@ -1,11 +1,10 @@
 -- `receiver_slot::ranged::rest` meets its contract: behind each group, line and buffer are those of its symbols. Assumes nothing.
 use mathlib.Core.Path.{◌≡◌, refl}
-use Prim.Native.Nat.{◌-◌, ◌≤◌, ◌<◌}
+use Prim.Native.Nat.{◌<◌}
 use native.Mathlib.Omega.{arith}
 use lib.Dec.{lit≤}
-use lib.ListN.{drop, length, length-append, length-drop, length-take, take}
-use Rattle.receiver_slot.proofs.Stretches.{Done, at-end, at-start, done-length, done_none, group-done, group-ok, held, last_run, outs_kept, start_of}
-use borrow.Author.Rules.{rules}
+use lib.ListN.{drop, length-append, length-drop, length-take, take}
+use Rattle.receiver_slot.proofs.Stretches.{Done, at-end, at-start, done-length, done_none, group-done, group-ok, held, last_run, outs_kept}
 use Rattle.receiver_slot.proofs.ranged.rest.Goals as goal
 
 pub loop-g-init : goal.loop-g-init

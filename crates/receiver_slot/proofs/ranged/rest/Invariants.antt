@@ -1,10 +1,7 @@
-use mathlib.Core.Path.{◌≡◌, refl}
-use Prim.Native.Nat.{◌-◌, ◌≤◌, ◌<◌}
-use native.Mathlib.Omega.{arith}
-use lib.Dec.{lit≤}
-use lib.ListN.{drop, length, length-append, length-drop, length-take, take}
-use Rattle.receiver_slot.proofs.Stretches.{Done, at-end, at-start, done-length, done_none, group-done, group-ok, held, last_run, outs_kept, start_of}
-use borrow.Author.Rules.{rules}
+use mathlib.Core.Path.{◌≡◌}
+use Prim.Native.Nat.{◌-◌, ◌≤◌}
+use lib.ListN.{length}
+use Rattle.receiver_slot.proofs.Stretches.{Done, start_of}
 use Rattle.receiver_slot.proofs.ranged.rest.Given as goal
 
 abbrev pub invariant-loop-g : goal.invariant-loop-g

@@ -1,6 +1,5 @@
 use Rattle.receiver_slot.specs.Steps.{runs_from}
 use Rattle.receiver_slot.proofs.Aligned.{joined_few}
-use borrow.Author.Rules.{rules}
 use Rattle.receiver_slot.proofs.ranged.runs.Goals as goal
 
 pub tail-requires : goal.tail-requires

@@ -1,6 +1,5 @@
 -- `receiver_slot::ranged::slot` meets its contract. Assumes nothing.
 use mathlib.Core.Path.{sym, ◌∙◌}
-use borrow.Author.Rules.{rules}
 use Rattle.receiver_slot.specs.Steps.{back_at, soft_to}
 use Rattle.receiver_slot.proofs.Aligned.{runs-from}
 use Rattle.receiver_slot.proofs.Softs.{between_few}

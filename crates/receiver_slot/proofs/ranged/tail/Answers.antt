@@ -1,7 +1,6 @@
 use Rattle.laws.specs.Choice.{cases}
 use Rattle.receiver_slot.specs.Slot.{no_run}
 use Rattle.receiver_slot.specs.Steps.{tail_of}
-use borrow.Author.Rules.{rules}
 use Rattle.receiver_slot.proofs.ranged.tail.Goals as goal
 
 pub returns-then-w-eq0 : goal.returns-then-w-eq0

@@ -6,7 +6,6 @@ use Rattle.laws.proofs.Size.{back}
 use Rattle.laws.specs.Choice.{cases}
 use Rattle.phase.specs.Phase.{symbol_at}
 use Rattle.receiver.specs.Symbol.{next_of}
-use borrow.Author.Rules.{rules}
 use lib.IntN.{pos}
 use lib.ListN.{get_or}
 use mathlib.Core.Path.{◌∙◌}

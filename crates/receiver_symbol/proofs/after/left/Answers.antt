@@ -1,6 +1,5 @@
 -- `receiver_symbol::after::left` meets its contract. Assumes nothing.
 use Rattle.receiver_symbol.specs.Parts.{left_by}
-use borrow.Author.Rules.{rules}
 use Rattle.receiver_symbol.proofs.after.left.Goals as goal
 
 pub returns : goal.returns

@@ -1,7 +1,6 @@
 -- `receiver_symbol::after::phased` meets its contract. Assumes nothing.
 use Rattle.receiver_symbol.specs.Parts.{phase_by, stored_by}
 use Rattle.laws.specs.Choice.{cases}
-use borrow.Author.Rules.{rules}
 use mathlib.Core.Path.{◌∙◌}
 use mir.Facts.{to_z-of_z}
 use mir.Syntax.{w16}

@@ -1,6 +1,5 @@
 -- `receiver_symbol::after::taken` meets its contract. Assumes nothing.
 use Rattle.receiver_symbol.specs.Parts.{taken_by}
-use borrow.Author.Rules.{rules}
 use Rattle.receiver_symbol.proofs.after.taken.Goals as goal
 
 pub returns : goal.returns

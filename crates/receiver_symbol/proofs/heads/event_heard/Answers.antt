@@ -1,7 +1,6 @@
 -- `receiver_symbol::heads::event_heard` meets its contract. Assumes nothing.
 use Rattle.receiver.specs.Heads.{event_heard}
 use Rattle.receiver_symbol.specs.Parts.{HearOk}
-use borrow.Author.Rules.{rules}
 use mathlib.Core.Path.{subst}
 use Rattle.receiver_symbol.proofs.heads.event_heard.Goals as goal
 

@@ -1,6 +1,5 @@
 -- `receiver_symbol::heads::head_heard` meets its contract. Assumes nothing.
 use Rattle.receiver.specs.Heads.{event_heard}
-use borrow.Author.Rules.{rules}
 use Rattle.receiver_symbol.proofs.heads.head_heard.Goals as goal
 
 pub tuned-requires : goal.tuned-requires

@@ -1,6 +1,5 @@
 -- `receiver_symbol::heads::is_lost` meets its contract. Assumes nothing.
 use Rattle.receiver.specs.Heads.{is_lost}
-use borrow.Author.Rules.{rules}
 use Rattle.receiver_symbol.proofs.heads.is_lost.Goals as goal
 
 pub returns-in-Nothing : goal.returns-in-Nothing

@@ -1,6 +1,5 @@
 -- `receiver_symbol::heads::loses` meets its contract. Assumes nothing.
 use Rattle.receiver.specs.Heads.{loses_in}
-use borrow.Author.Rules.{rules}
 use Rattle.receiver_symbol.proofs.heads.loses.Goals as goal
 
 pub returns : goal.returns

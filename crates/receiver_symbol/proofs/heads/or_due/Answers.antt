@@ -1,6 +1,5 @@
 -- `receiver_symbol::heads::or_due` meets its contract. Assumes nothing.
 use Rattle.receiver.specs.Heads.{or_due}
-use borrow.Author.Rules.{rules}
 use Rattle.receiver_symbol.proofs.heads.or_due.Goals as goal
 
 pub returns-in-Nothing : goal.returns-in-Nothing

@@ -1,7 +1,6 @@
 -- `receiver_symbol::heads::tuned` meets its contract. Assumes nothing.
 use Rattle.receiver_symbol.specs.Parts.{TuneOk}
 use Rattle.carrier.specs.Carrier.{heard_of, word_heard}
-use borrow.Author.Rules.{rules}
 use mathlib.Core.Path.{subst}
 use Rattle.receiver_symbol.proofs.heads.tuned.Goals as goal
 

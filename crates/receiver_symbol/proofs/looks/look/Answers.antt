@@ -1,7 +1,6 @@
 -- `receiver_symbol::looks::look` meets its contract. Assumes nothing.
 use Rattle.receiver_symbol.proofs.Laws.{advanced_ok}
 use Rattle.receiver_symbol.specs.Parts.{ahead_by}
-use borrow.Author.Rules.{rules}
 use mir.Facts.{to_z-of_z}
 use mir.Syntax.{w8}
 use Rattle.receiver_symbol.proofs.looks.look.Goals as goal

@@ -4,7 +4,6 @@ use Rattle.receiver_symbol.specs.Parts.{EventsOk}
 use Rattle.sync_corr.proofs.Laws.{dots_both, rows_small}
 use Rattle.sync_heads.specs.Ready.{Smalls}
 use Rattle.sync_step.specs.declared.Step.{Step}
-use borrow.Author.Rules.{rules}
 use mathlib.Core.Path.{◌∙◌, subst, sym}
 use Rattle.receiver_symbol.proofs.looks.step.Goals as goal
 

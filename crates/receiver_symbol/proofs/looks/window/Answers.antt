@@ -1,7 +1,6 @@
 -- `receiver_symbol::looks::window` meets its contract. Assumes nothing.
 use Rattle.receiver_symbol.specs.Parts.{window_by}
 use Rattle.laws.proofs.Size.{back}
-use borrow.Author.Rules.{rules}
 use mathlib.Core.Path.{◌∙◌}
 use mir.Facts.{to_z-of_z}
 use mir.Syntax.{w8}

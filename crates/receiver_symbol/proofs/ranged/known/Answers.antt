@@ -2,7 +2,6 @@
 use Rattle.receiver_symbol.proofs.Ready.{ahead_ok, known_soon}
 use Rattle.receiver_symbol.proofs.Symbols.{acc-later, answer-later, soft-later, store-later}
 use Rattle.receiver.specs.Symbol.{Input, Lent}
-use borrow.Author.Rules.{rules}
 use lib.ListN.{length}
 use mathlib.Core.Path.{◌∙◌}
 use mir.Facts.{to_z-of_z}

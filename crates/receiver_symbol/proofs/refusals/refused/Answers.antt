@@ -1,6 +1,5 @@
 -- `receiver_symbol::refusals::refused` meets its contract. Assumes nothing.
 use Rattle.receiver_symbol.specs.Parts.{refused_by}
-use borrow.Author.Rules.{rules}
 use Rattle.receiver_symbol.proofs.refusals.refused.Goals as goal
 
 pub returns : goal.returns

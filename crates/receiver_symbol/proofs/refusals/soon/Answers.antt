@@ -1,7 +1,6 @@
 -- `receiver_symbol::refusals::soon` meets its contract. Assumes nothing.
 use Rattle.receiver_symbol.specs.Parts.{soon_refusal}
 use Rattle.laws.specs.Choice.{cases}
-use borrow.Author.Rules.{rules}
 use Rattle.receiver_symbol.proofs.refusals.soon.Goals as goal
 
 pub returns-then-table-eq1024 : goal.returns-then-table-eq1024

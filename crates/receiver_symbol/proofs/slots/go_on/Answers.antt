@@ -1,7 +1,6 @@
 -- `receiver_symbol::slots::go_on` meets its contract. Assumes nothing.
 use Rattle.receiver_symbol.proofs.Symbols.{acc-none, answer_none, soft-none, store-none}
 use Rattle.receiver_symbol.specs.Parts.{DueOk}
-use borrow.Author.Rules.{rules}
 use mathlib.Core.Path.{◌∙◌, subst}
 use Rattle.receiver_symbol.proofs.slots.go_on.Goals as goal
 

@@ -1,7 +1,6 @@
 -- `receiver_symbol::slots::refusal` meets its contract. Assumes nothing.
 use Prim.Native.Nat.{◌+◌, ◌^◌}
 use Rattle.laws.specs.Choice.{if_no, if_yes}
-use borrow.Author.Rules.{rules}
 use borrow.Author.Tests.{le-ltb, lt-ltb}
 use mathlib.Core.Path.{◌∙◌, sym}
 use native.Mathlib.Omega.{arith}

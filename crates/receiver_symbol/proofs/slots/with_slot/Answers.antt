@@ -2,8 +2,6 @@
 use Rattle.receiver_symbol.proofs.Ready.{back_in, due_is, slot_ok}
 use Rattle.receiver_symbol.proofs.Symbols.{acc-full, acc-slot, answer-full, answer-slot, refusal-due, soft-full, soft-slot, store-full, store-slot}
 use Rattle.receiver_symbol.specs.Parts.{later_refusal}
-use Rattle.laws.proofs.Size.{back}
-use borrow.Author.Rules.{rules}
 use lib.ListN.{length}
 use mathlib.Core.Path.{◌∙◌, ◌≡◌, sym}
 use Rattle.receiver_symbol.proofs.slots.with_slot.Goals as goal

@@ -6,4 +6,4 @@ use Rattle.sync_replay.proofs.given.run_at.Goals as goal
 pub returns : goal.returns
 unfolding run_of
 returns c =
-    rw (c.wide-2.ensures, c.wide.ensures, c.course_at-c.ensures, c.Stage-at.ensures, c.lock_at-k.ensures, c.tally_at-y.ensures)
+    rw (c.wide-2.ensures, c.wide.ensures, c.course_at-c.ensures, c.stage_at-s.ensures, c.lock_at-k.ensures, c.tally_at-y.ensures)
