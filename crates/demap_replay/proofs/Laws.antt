@@ -1,15 +1,10 @@
 -- Laws of the definitions of demap_replay that its proofs cite. Assumes nothing.
 use mathlib.Core.List.{List, ◌++◌}
-use mathlib.Core.Path.{◌≡◌, refl, sym, ap, ◌∙◌}
-use Prim.Native.Nat.{ℕ, zero, suc, ◌+◌, ◌≤◌}
-use native.Mathlib.Nat.{le_refl}
+use mathlib.Core.Path.{◌≡◌, sym}
+use Prim.Native.Nat.{ℕ, ◌≤◌}
 use native.Mathlib.Omega.{arith}
-use borrow.Author.Tests.{ltb-false, ltb-true}
-use lib.IntN.{ℤ}
-use lib.ListN.{length, take, drop, drop_of_length-le, get_or-eq_default, replicate}
-use lib.Seq.{take_all, length-take-le}
+use lib.ListN.{length, get_or-eq_default, replicate}
 use Rattle.laws.proofs.Lists.{length-firsts}
-use Rattle.laws.proofs.Tests.{if_either}
 use Rattle.wire.specs.Wire.{byte_at, packed_of, numbers_of}
 use Rattle.fields.specs.Fields.{at}
 use Rattle.demap_replay.specs.Kept.{turned}

@@ -1,10 +1,9 @@
 -- `demap_replay::replay` meets its contract. Assumes nothing.
-use Prim.Native.Nat.{◌+◌, ◌-◌, ◌*◌, ◌≤◌}
+use Prim.Native.Nat.{◌+◌, ◌-◌, ◌*◌}
 use Rattle.demap_replay.proofs.Laws.{length_answer}
-use Rattle.demap_replay.specs.Replay.{replayed, left_of, answer_bytes, after, desk}
-use Rattle.wire.proofs.Blocks.{so_far, left_from, replay-more, replay-none, replay-all}
-use lib.ListN.{length}
-use mathlib.Core.Path.{◌≡◌, refl, sym, ◌∙◌}
+use Rattle.demap_replay.specs.Replay.{answer_bytes, after, desk}
+use Rattle.wire.proofs.Blocks.{replay-more, replay-none, replay-all}
+use mathlib.Core.Path.{◌≡◌, sym, ◌∙◌}
 use native.Mathlib.Omega.{arith}
 use Rattle.demap_replay.proofs.replay.Goals as goal
 

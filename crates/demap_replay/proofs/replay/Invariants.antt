@@ -1,10 +1,8 @@
-use Prim.Native.Nat.{◌+◌, ◌-◌, ◌*◌, ◌≤◌}
+use Prim.Native.Nat.{◌-◌, ◌*◌, ◌≤◌}
 use Rattle.demap_replay.proofs.Laws.{length_answer}
 use Rattle.demap_replay.specs.Replay.{replayed, left_of, answer_bytes, after, desk}
-use Rattle.wire.proofs.Blocks.{so_far, left_from, replay-more, replay-none, replay-all}
-use lib.ListN.{length}
-use mathlib.Core.Path.{◌≡◌, refl, sym, ◌∙◌}
-use native.Mathlib.Omega.{arith}
+use Rattle.wire.proofs.Blocks.{so_far, left_from}
+use mathlib.Core.Path.{◌≡◌}
 use Rattle.demap_replay.proofs.replay.Given as goal
 
 abbrev pub invariant-loop-i : goal.invariant-loop-i

@@ -1,11 +1,10 @@
 -- `receiver_replay::replay` meets its contract. Assumes nothing.
-use Prim.Native.Nat.{◌*◌, ◌+◌, ◌-◌, ◌≤◌}
+use Prim.Native.Nat.{◌*◌, ◌+◌, ◌-◌}
 use Rattle.receiver_replay.proofs.Laws.{length_answer}
 use Rattle.receiver_replay.specs.Calls.{all}
-use Rattle.receiver_replay.specs.Replay.{after, answer_bytes, left_of, replayed}
-use Rattle.wire.proofs.Blocks.{left_from, replay-all, replay-more, replay-none, so_far}
-use lib.ListN.{length}
-use mathlib.Core.Path.{◌∙◌, ◌≡◌, refl, sym}
+use Rattle.receiver_replay.specs.Replay.{after, answer_bytes}
+use Rattle.wire.proofs.Blocks.{replay-all, replay-more, replay-none}
+use mathlib.Core.Path.{◌∙◌, ◌≡◌, sym}
 use native.Mathlib.Omega.{arith}
 use Rattle.receiver_replay.proofs.replay.Goals as goal
 

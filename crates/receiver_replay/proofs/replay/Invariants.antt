@@ -1,11 +1,9 @@
-use Prim.Native.Nat.{◌*◌, ◌+◌, ◌-◌, ◌≤◌}
+use Prim.Native.Nat.{◌*◌, ◌-◌, ◌≤◌}
 use Rattle.receiver_replay.proofs.Laws.{length_answer}
 use Rattle.receiver_replay.specs.Calls.{all}
 use Rattle.receiver_replay.specs.Replay.{after, answer_bytes, left_of, replayed}
-use Rattle.wire.proofs.Blocks.{left_from, replay-all, replay-more, replay-none, so_far}
-use lib.ListN.{length}
-use mathlib.Core.Path.{◌∙◌, ◌≡◌, refl, sym}
-use native.Mathlib.Omega.{arith}
+use Rattle.wire.proofs.Blocks.{left_from, so_far}
+use mathlib.Core.Path.{◌≡◌}
 use Rattle.receiver_replay.proofs.replay.Given as goal
 
 abbrev pub invariant-loop-i : goal.invariant-loop-i

@@ -2,7 +2,6 @@
 use native.Mathlib.Omega.{arith}
 use Rattle.demap_replay.proofs.Laws.{slices_none}
 use Rattle.demap_replay.specs.Replay.{desk, turn_of, learned_of, nominal_of}
-use borrow.Author.Rules.{rules}
 use Rattle.demap_replay.proofs.call.on_slices.Goals as goal
 
 pub read-told-requires : goal.read-told-requires

@@ -2,7 +2,6 @@
 use native.Mathlib.Omega.{arith}
 use Rattle.demap_replay.proofs.Laws.{read_none}
 use Rattle.demap_replay.specs.Replay.{desk, read_of}
-use borrow.Author.Rules.{rules}
 use mathlib.Core.Path.{◌∙◌}
 use Rattle.demap_replay.proofs.call.read.Goals as goal
 

@@ -1,14 +1,11 @@
 -- `demap_replay::call::replace` meets its contract. Assumes nothing.
-use Prim.Native.Nat.{ℕ, ◌-◌}
+use Prim.Native.Nat.{ℕ}
 use Rattle.demap_replay.proofs.Laws.{length_answer}
 use Rattle.demap_replay.specs.Replay.{answer_bytes, after, desk}
 use Rattle.wire.proofs.Blocks.{put_all, from_on}
-use borrow.Author.Rules.{rules}
-use lib.ListN.{length, take, drop, length-drop}
-use lib.Seq.{take_all}
-use mathlib.Core.List.{List, ◌++◌}
-use mathlib.Core.Path.{◌≡◌, refl, ap, ◌∙◌}
-use native.Mathlib.Omega.{arith}
+use lib.ListN.{drop}
+use mathlib.Core.List.{List}
+use mathlib.Core.Path.{◌≡◌}
 use Rattle.demap_replay.proofs.call.replace.Goals as goal
 
 pub returns : goal.returns

@@ -1,7 +1,6 @@
 -- `demap_replay::call::turn` meets its contract. Assumes nothing.
 use native.Mathlib.Omega.{arith}
 use Rattle.demap_replay.specs.Replay.{turn_of, learned_of, nominal_of}
-use borrow.Author.Rules.{rules}
 use Rattle.demap_replay.proofs.call.turn.Goals as goal
 
 pub on_slices-requires : goal.on_slices-requires

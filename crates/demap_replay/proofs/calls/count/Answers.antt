@@ -1,6 +1,5 @@
 -- `demap_replay::calls::count` meets its contract. Assumes nothing.
 use Rattle.demap_replay.specs.Calls.{count_call}
-use borrow.Author.Rules.{rules}
 use Rattle.demap_replay.proofs.calls.count.Goals as goal
 
 pub returns : goal.returns

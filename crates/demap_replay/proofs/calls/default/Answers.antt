@@ -1,6 +1,5 @@
 -- `demap_replay::calls::default` meets its contract. Assumes nothing.
 use Rattle.demap_replay.specs.Calls.{default_call}
-use borrow.Author.Rules.{rules}
 use Rattle.demap_replay.proofs.calls.default.Goals as goal
 
 pub returns : goal.returns

@@ -1,6 +1,5 @@
 -- `demap_replay::calls::figure` meets its contract. Assumes nothing.
 use Rattle.demap_replay.specs.Calls.{figure_call}
-use borrow.Author.Rules.{rules}
 use Rattle.demap_replay.proofs.calls.figure.Goals as goal
 
 pub returns : goal.returns

@@ -1,6 +1,5 @@
 -- `demap_replay::calls::force` meets its contract. Assumes nothing.
 use Rattle.demap_replay.specs.Calls.{force_call}
-use borrow.Author.Rules.{rules}
 use Rattle.demap_replay.proofs.calls.force.Goals as goal
 
 pub returns : goal.returns

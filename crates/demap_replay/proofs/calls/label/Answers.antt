@@ -1,6 +1,5 @@
 -- `demap_replay::calls::label` meets its contract. Assumes nothing.
 use Rattle.demap_replay.specs.Calls.{label_call}
-use borrow.Author.Rules.{rules}
 use Rattle.demap_replay.proofs.calls.label.Goals as goal
 
 pub returns : goal.returns

@@ -1,7 +1,6 @@
 -- `demap_replay::calls::metric` meets its contract. Assumes nothing.
 use Rattle.demap_replay.specs.Calls.{metric_call}
 use Rattle.laws.proofs.Size.{back}
-use borrow.Author.Rules.{rules}
 use mir.Syntax.{w16, w64}
 use Rattle.demap_replay.proofs.calls.metric.Goals as goal
 

@@ -1,6 +1,5 @@
 -- `demap_replay::calls::new` meets its contract. Assumes nothing.
 use Rattle.demap_replay.specs.Calls.{new_call}
-use borrow.Author.Rules.{rules}
 use Rattle.demap_replay.proofs.calls.new.Goals as goal
 
 pub returns : goal.returns

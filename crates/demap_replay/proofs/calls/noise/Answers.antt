@@ -1,7 +1,6 @@
 -- `demap_replay::calls::noise` meets its contract. Assumes nothing.
 use Rattle.demap_replay.specs.Calls.{noise_call}
 use Rattle.laws.proofs.Size.{back}
-use borrow.Author.Rules.{rules}
 use mir.Syntax.{w16, w64}
 use Rattle.demap_replay.proofs.calls.noise.Goals as goal
 

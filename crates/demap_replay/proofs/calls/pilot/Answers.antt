@@ -1,7 +1,6 @@
 -- `demap_replay::calls::pilot` meets its contract. Assumes nothing.
 use Rattle.demap_replay.specs.Calls.{pilot_call}
 use Rattle.laws.proofs.Size.{back}
-use borrow.Author.Rules.{rules}
 use mir.Syntax.{w16}
 use Rattle.demap_replay.proofs.calls.pilot.Goals as goal
 

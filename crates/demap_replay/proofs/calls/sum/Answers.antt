@@ -1,7 +1,6 @@
 -- `demap_replay::calls::sum` meets its contract. Assumes nothing.
 use Rattle.demap_replay.specs.Calls.{sum_call}
 use Rattle.laws.proofs.Size.{back}
-use borrow.Author.Rules.{rules}
 use mir.Syntax.{w64}
 use Rattle.demap_replay.proofs.calls.sum.Goals as goal
 

@@ -1,7 +1,6 @@
 -- `demap_replay::given::force_at` meets its contract. Assumes nothing.
 use Rattle.demap_replay.specs.Given.{force_of}
 use Rattle.laws.proofs.Size.{back}
-use borrow.Author.Rules.{rules}
 use mir.Syntax.{w64}
 use Rattle.demap_replay.proofs.given.force_at.Goals as goal
 

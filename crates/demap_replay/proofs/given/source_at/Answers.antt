@@ -1,7 +1,6 @@
 -- `demap_replay::given::source_at` meets its contract. Assumes nothing.
 use Rattle.demap_replay.specs.Given.{source_of}
 use Rattle.laws.specs.Choice.{if_yes, if_no}
-use borrow.Author.Rules.{rules}
 use borrow.Author.Tests.{eq-eqb, ne_eqb}
 use mathlib.Core.Path.{sym}
 use Rattle.demap_replay.proofs.given.source_at.Goals as goal

@@ -1,6 +1,5 @@
 -- `demap_replay::told::bits8` meets its contract. Assumes nothing.
 use Rattle.laws.proofs.Size.{arg, fits}
-use borrow.Author.Rules.{rules}
 use mir.Facts.{to_z-of_z}
 use mir.Syntax.{w16}
 use Rattle.demap_replay.proofs.told.bits8.Goals as goal

@@ -1,6 +1,5 @@
 -- `demap_replay::told::frame` meets its contract. Assumes nothing.
 use Rattle.demap_replay.specs.Told.{frame_of}
-use borrow.Author.Rules.{rules}
 use Rattle.demap_replay.proofs.told.frame.Goals as goal
 
 pub returns-in-Never : goal.returns-in-Never

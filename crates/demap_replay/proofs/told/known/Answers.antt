@@ -1,6 +1,5 @@
 -- `demap_replay::told::known` meets its contract. Assumes nothing.
 use Rattle.demap_replay.specs.Told.{known_of}
-use borrow.Author.Rules.{rules}
 use Rattle.demap_replay.proofs.told.known.Goals as goal
 
 pub returns-in-Never : goal.returns-in-Never

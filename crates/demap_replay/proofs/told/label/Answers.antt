@@ -1,7 +1,6 @@
 -- `demap_replay::told::label` meets its contract. Assumes nothing.
 use Rattle.demap_replay.specs.Told.{label_told}
 use Rattle.laws.specs.Choice.{if_yes, if_no}
-use borrow.Author.Rules.{rules}
 use borrow.Author.Tests.{lt-ltb, le-ltb}
 use mathlib.Core.Path.{sym}
 use Rattle.demap_replay.proofs.told.label.Goals as goal

@@ -1,6 +1,5 @@
 -- `demap_replay::told::single` meets its contract. Assumes nothing.
 use Rattle.demap_replay.specs.Told.{single_told}
-use borrow.Author.Rules.{rules}
 use Rattle.demap_replay.proofs.told.single.Goals as goal
 
 pub returns : goal.returns

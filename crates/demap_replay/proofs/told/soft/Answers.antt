@@ -3,7 +3,6 @@ use Prim.Native.Nat.{◌+◌}
 use Rattle.demap_replay.specs.Told.{soft_told}
 use Rattle.laws.proofs.Size.{back}
 use Rattle.laws.specs.Choice.{if_yes, if_no}
-use borrow.Author.Rules.{rules}
 use borrow.Author.Tests.{lt-ltb, le-ltb}
 use lib.IntN.{pos}
 use lib.ListN.{get_or}

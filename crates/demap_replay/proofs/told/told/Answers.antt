@@ -1,6 +1,5 @@
 -- `demap_replay::told::told` meets its contract. Assumes nothing.
 use Rattle.demap_replay.specs.Told.{told}
-use borrow.Author.Rules.{rules}
 use mathlib.Core.Path.{refl}
 use Rattle.demap_replay.proofs.told.told.Goals as goal
 

@@ -3,7 +3,6 @@ use native.Mathlib.Omega.{arith}
 use Rattle.frame_replay.specs.Replay.{aligned_of}
 use Rattle.frame_replay.proofs.Laws.{aligned_none}
 use mathlib.Core.Path.{◌∙◌}
-use borrow.Author.Rules.{rules}
 use Rattle.frame_replay.proofs.call.aligned.Goals as goal
 
 pub returns-in-0 : goal.returns-in-0

@@ -3,7 +3,6 @@ use Rattle.frame_replay.specs.Replay.{turn_of}
 use Rattle.laws.specs.Choice.{if_yes, if_no}
 use borrow.Author.Tests.{lt-ltb, le-ltb}
 use mathlib.Core.Path.{sym, ◌∙◌}
-use borrow.Author.Rules.{rules}
 use Rattle.frame_replay.proofs.call.turn.Goals as goal
 
 pub returns-then-op-lt16 : goal.returns-then-op-lt16

@@ -1,5 +1,4 @@
 -- `frame_replay::calls::line` meets its contract. Assumes nothing.
-use borrow.Author.Rules.{rules}
 use Rattle.frame_replay.specs.Calls.{line_call}
 use Rattle.frame_replay.proofs.calls.line.Goals as goal
 

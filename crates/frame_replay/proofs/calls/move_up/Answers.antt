@@ -1,5 +1,4 @@
 -- `frame_replay::calls::move_up` meets its contract. Assumes nothing.
-use borrow.Author.Rules.{rules}
 use Rattle.frame_replay.specs.Calls.{move_call}
 use Rattle.frame_replay.proofs.calls.move_up.Goals as goal
 

@@ -1,5 +1,4 @@
 -- `frame_replay::calls::new` meets its contract. Assumes nothing.
-use borrow.Author.Rules.{rules}
 use Rattle.frame_replay.specs.Calls.{new_call}
 use Rattle.frame_replay.proofs.calls.new.Goals as goal
 

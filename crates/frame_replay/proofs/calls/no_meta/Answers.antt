@@ -1,5 +1,4 @@
 -- `frame_replay::calls::no_meta` meets its contract. Assumes nothing.
-use borrow.Author.Rules.{rules}
 use Rattle.frame_line.specs.Line.{no_metas}
 use Rattle.frame_replay.specs.Calls.{no_meta}
 use Rattle.frame_replay.proofs.calls.no_meta.Goals as goal

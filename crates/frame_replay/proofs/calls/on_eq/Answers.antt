@@ -1,5 +1,4 @@
 -- `frame_replay::calls::on_eq` meets its contract. Assumes nothing.
-use borrow.Author.Rules.{rules}
 use Rattle.frame_replay.specs.Calls.{eq_call}
 use Rattle.frame_replay.proofs.calls.on_eq.Goals as goal
 

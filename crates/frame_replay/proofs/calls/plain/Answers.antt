@@ -1,5 +1,4 @@
 -- `frame_replay::calls::plain` meets its contract. Assumes nothing.
-use borrow.Author.Rules.{rules}
 use Rattle.frame_replay.specs.Calls.{plain}
 use Rattle.frame_replay.proofs.calls.plain.Goals as goal
 

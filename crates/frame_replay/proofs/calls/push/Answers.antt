@@ -1,5 +1,4 @@
 -- `frame_replay::calls::push` meets its contract. Assumes nothing.
-use borrow.Author.Rules.{rules}
 use Rattle.frame_replay.specs.Calls.{push_call}
 use Rattle.frame_replay.proofs.calls.push.Goals as goal
 

@@ -1,5 +1,4 @@
 -- `frame_replay::calls::restart` meets its contract. Assumes nothing.
-use borrow.Author.Rules.{rules}
 use Rattle.frame_replay.specs.Calls.{restart_call}
 use Rattle.frame_replay.proofs.calls.restart.Goals as goal
 

@@ -1,6 +1,5 @@
 -- `frame_replay::calls::words` meets its contract. Assumes nothing.
 use Rattle.frame_replay.specs.Calls.{words_call}
-use borrow.Author.Rules.{rules}
 use Rattle.frame_replay.proofs.calls.words.Goals as goal
 
 pub returns : goal.returns

@@ -1,7 +1,6 @@
 -- `frame_replay::given::symbol_at` meets its contract. Assumes nothing.
 use Rattle.frame_replay.specs.Given.{symbol_of}
 use mir.Facts.{to_z-of_z}
-use borrow.Author.Rules.{rules}
 use Rattle.frame_replay.proofs.given.symbol_at.Goals as goal
 
 pub returns : goal.returns

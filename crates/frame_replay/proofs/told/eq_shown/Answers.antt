@@ -1,5 +1,4 @@
 -- `frame_replay::told::eq_shown` meets its contract. Assumes nothing.
-use borrow.Author.Rules.{rules}
 use Rattle.frame_replay.specs.Told.{eq_shown}
 use Rattle.frame_replay.proofs.told.eq_shown.Goals as goal
 

@@ -1,6 +1,5 @@
 -- `frame_replay::told::told` meets its contract. Assumes nothing.
 use Rattle.frame_replay.specs.Told.{told_of}
-use borrow.Author.Rules.{rules}
 use Rattle.frame_replay.proofs.told.told.Goals as goal
 
 pub returns : goal.returns

@@ -1,15 +1,12 @@
 -- `receiver_replay::call::replace` meets its contract. Assumes nothing.
-use Prim.Native.Nat.{◌-◌, ℕ}
+use Prim.Native.Nat.{ℕ}
 use Rattle.receiver_replay.proofs.Laws.{length_answer}
 use Rattle.receiver_replay.specs.Calls.{Moved, all}
 use Rattle.receiver_replay.specs.Replay.{after, answer_bytes}
 use Rattle.wire.proofs.Blocks.{put_all, from_on}
-use borrow.Author.Rules.{rules}
-use lib.ListN.{drop, length, length-drop, take}
-use lib.Seq.{take_all}
-use mathlib.Core.List.{List, ◌++◌}
-use mathlib.Core.Path.{◌∙◌, ◌≡◌, ap, refl}
-use native.Mathlib.Omega.{arith}
+use lib.ListN.{drop}
+use mathlib.Core.List.{List}
+use mathlib.Core.Path.{◌≡◌, ap}
 use Rattle.receiver_replay.proofs.call.replace.Goals as goal
 
 pub returns : goal.returns

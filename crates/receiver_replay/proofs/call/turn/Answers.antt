@@ -1,7 +1,6 @@
 -- `receiver_replay::call::turn` meets its contract. Assumes nothing.
 use Rattle.laws.specs.Choice.{if_no, if_yes}
 use Rattle.receiver_replay.specs.Replay.{turn_of}
-use borrow.Author.Rules.{rules}
 use borrow.Author.Tests.{le-ltb, lt-ltb}
 use mathlib.Core.Path.{◌∙◌, sym}
 use Rattle.receiver_replay.proofs.call.turn.Goals as goal

@@ -1,6 +1,5 @@
 -- `receiver_replay::call::with` meets its contract. Assumes nothing.
 use native.Mathlib.Omega.{arith}
-use borrow.Author.Rules.{rules}
 use Rattle.receiver_replay.proofs.Laws.{stores-none}
 use Rattle.receiver_replay.specs.Replay.{stores_of}
 use Rattle.receiver_replay.proofs.call.with.Goals as goal

@@ -1,9 +1,7 @@
 -- `receiver_replay::given::copy` meets its contract. Assumes nothing.
-use Prim.Native.Nat.{ℕ, ◌+◌, ◌-◌, ◌≤◌}
 use Rattle.laws.proofs.Lists.{firsts-step}
 use Rattle.laws.specs.Ranges.{firsts}
-use lib.ListN.{drop, length, length-set}
-use mathlib.Core.List.{◌++◌}
+use lib.ListN.{length-set}
 use mathlib.Core.Path.{◌∙◌, ◌≡◌, refl}
 use native.Mathlib.Omega.{arith}
 use Rattle.fields.specs.Fields.{one_at}
@@ -11,7 +9,6 @@ use Rattle.receiver_replay.proofs.Laws.{least_within}
 use Rattle.receiver_replay.specs.Given.{over_of}
 use mir.Facts.{to_z-of_z}
 use mir.Syntax.{w8}
-use borrow.Author.Rules.{rules}
 use Rattle.receiver_replay.proofs.given.copy.Goals as goal
 
 pub loop-k-init : goal.loop-k-init

@@ -1,15 +1,9 @@
-use Prim.Native.Nat.{ℕ, ◌+◌, ◌-◌, ◌≤◌}
-use Rattle.laws.proofs.Lists.{firsts-step}
+use Prim.Native.Nat.{◌+◌, ◌-◌, ◌≤◌}
 use Rattle.laws.specs.Ranges.{firsts}
-use lib.ListN.{drop, length, length-set}
+use lib.ListN.{drop, length}
 use mathlib.Core.List.{◌++◌}
-use mathlib.Core.Path.{◌∙◌, ◌≡◌, refl}
-use native.Mathlib.Omega.{arith}
+use mathlib.Core.Path.{◌≡◌}
 use Rattle.fields.specs.Fields.{one_at}
-use Rattle.receiver_replay.proofs.Laws.{least_within}
-use Rattle.receiver_replay.specs.Given.{over_of}
-use mir.Facts.{to_z-of_z}
-use borrow.Author.Rules.{rules}
 use Rattle.receiver_replay.proofs.given.copy.Given as goal
 
 abbrev pub invariant-loop-k : goal.invariant-loop-k

@@ -1,6 +1,5 @@
 -- `receiver_replay::given::put` meets its contract. Assumes nothing.
 use Rattle.receiver_replay.proofs.Laws.{put_is}
-use borrow.Author.Rules.{rules}
 use mathlib.Core.Path.{refl}
 use Rattle.receiver_replay.proofs.given.put.Goals as goal
 

@@ -1,7 +1,6 @@
 -- `receiver_replay::given::symbols` meets its contract. Assumes nothing.
 use Rattle.receiver_replay.proofs.Laws.{over-all}
 use Rattle.receiver_replay.specs.Given.{symbols_of}
-use borrow.Author.Rules.{rules}
 use mathlib.Core.Path.{◌∙◌}
 use Rattle.receiver_replay.proofs.given.symbols.Goals as goal
 

@@ -1,6 +1,5 @@
 -- `receiver_replay::stores::look` meets its contract. Assumes nothing.
 use Rattle.receiver_replay.specs.Calls.{look_turn}
-use borrow.Author.Rules.{rules}
 use Rattle.receiver_replay.proofs.stores.look.Goals as goal
 
 pub returns : goal.returns
