@@ -10,6 +10,7 @@ use Rattle.fields.specs.Fields.{one_at}
 use Rattle.receiver_replay.proofs.Laws.{least_within}
 use Rattle.receiver_replay.specs.Given.{over_of}
 use mir.Facts.{to_z-of_z}
+use mir.Syntax.{w8}
 use borrow.Author.Rules.{rules}
 use Rattle.receiver_replay.proofs.given.copy.Goals as goal
 
@@ -24,7 +25,7 @@ loop-k-preserved c =
     let h = c.loop-k in
     let s = c.args in
     let bytes = c.packed-bytes.result in
-    (omega arith, h.invariant.1, h.invariant.2, length-set h.to h.k _ ∙ h.invariant.3, rw h.invariant.4 (firsts-step (one_at bytes s.from) s.to.now h.k _ (to_z-of_z (record { sfits = c.one.type_inv }) ∙ c.one.ensures) (omega arith)))
+    (omega arith, h.invariant.1, h.invariant.2, length-set h.to h.k _ ∙ h.invariant.3, rw h.invariant.4 (firsts-step (one_at bytes s.from) s.to.now h.k _ (to_z-of_z {w = w8} (record { sfits = c.one.type_inv }) ∙ c.one.ensures) (omega arith)))
 
 pub returns : goal.returns
 unfolding over_of
