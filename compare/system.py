@@ -9,7 +9,6 @@ import itertools
 import os
 import pty
 import resource
-import signal
 import struct
 import subprocess
 import sys
