@@ -9,7 +9,6 @@ import itertools
 import os
 import pty
 import resource
-import signal
 import struct
 import subprocess
 import sys
@@ -337,12 +336,12 @@ def reader_leaves(b, told, status, **more):
 
 
 def reader_leaves_signal(b):
-    """By default the system's signal ends the program, as it ends others in a chain of pipes."""
-    reader_leaves(b, "", -signal.SIGPIPE)
+    """The system's signal ends no program of Rattle's, which ignores it as it starts: whoever starts the program is told."""
+    reader_leaves(b, WRITES + text(errno.EPIPE), 0)
 
 
 def reader_leaves_ignored(b):
-    """Whoever starts it with that signal ignored, as this program is itself, is told."""
+    """.. and so is who starts it with that signal ignored, as this program is itself."""
     reader_leaves(b, WRITES + text(errno.EPIPE), 0, restore_signals=False)
 
 

@@ -1,8 +1,7 @@
 -- Laws of the definitions of eq_calls that its proofs cite. Assumes nothing.
 use mathlib.Core.List.{List}
 use mathlib.Core.Path.{◌≡◌, sym}
-use Prim.Native.Nat.{ℕ, zero, suc, ◌+◌, ◌≤◌}
-use native.Mathlib.Omega.{arith}
+use Prim.Native.Nat.{ℕ, ◌≤◌}
 use lib.ListN.{get_or-eq_default}
 use Rattle.eq_calls.specs.declared.kept.Kept.{Kept}
 use Rattle.eq_calls.specs.Turns.{same, turns, turn_of}

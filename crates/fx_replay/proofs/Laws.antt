@@ -1,7 +1,7 @@
 -- Laws of the definitions of fx_replay that its proofs cite. Assumes nothing.
 use mathlib.Core.List.{List}
 use mathlib.Core.Path.{◌≡◌, refl, sym}
-use Prim.Native.Nat.{ℕ, ◌%◌, ◌^◌}
+use Prim.Native.Nat.{ℕ, ◌≤◌, ◌%◌, ◌^◌}
 use lib.IntN.{ℤ}
 use lib.ListN.{length, get_or-eq_default}
 use Rattle.c_api.specs.Api.{none2}

@@ -75,7 +75,9 @@ fn main(rt: HostRuntime) -> io::Result<()> {
     let mut bytes = [0u8; 2048];
     let got = wire::streams::read_full(&mut rt.stdin(), &mut bytes)?;
     if got < 2048 {
-        return rt.stderr().write_all(b"the input ends within the carrier table\n");
+        return rt
+            .stderr()
+            .write_all(b"the input ends within the carrier table\n");
     }
     let table = wire::table(&bytes);
     let mut buf = [0u8; BLOCK];

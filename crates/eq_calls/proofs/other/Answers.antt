@@ -3,7 +3,6 @@ use native.Mathlib.Omega.{arith}
 use Rattle.eq_calls.specs.Turns.{turn_of}
 use mathlib.Core.Path.{◌∙◌}
 use Rattle.eq_calls.proofs.Laws.{turn_none}
-use borrow.Author.Rules.{rules}
 use Rattle.eq_calls.proofs.other.Goals as goal
 
 pub returns-in-9 : goal.returns-in-9

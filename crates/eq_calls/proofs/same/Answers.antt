@@ -1,6 +1,5 @@
 -- `eq_calls::same` meets its contract. Assumes nothing.
 use Rattle.eq_calls.specs.Turns.{same}
-use borrow.Author.Rules.{rules}
 use Rattle.eq_calls.proofs.same.Goals as goal
 
 pub returns : goal.returns

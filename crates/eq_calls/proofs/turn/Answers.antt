@@ -1,7 +1,6 @@
 -- `eq_calls::turn` meets its contract. Assumes nothing.
 use native.Mathlib.Omega.{arith}
 use Rattle.eq_calls.specs.Turns.{turn_of}
-use borrow.Author.Rules.{rules}
 use Rattle.eq_calls.proofs.turn.Goals as goal
 
 pub other-requires : goal.other-requires

@@ -1,5 +1,4 @@
 -- `frame_wire::count_put` meets its contract. Assumes nothing.
-use borrow.Author.Rules.{rules}
 use Rattle.frame_wire.specs.Line.{count_put}
 use Rattle.frame_wire.proofs.count_put.Goals as goal
 

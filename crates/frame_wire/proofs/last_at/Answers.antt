@@ -1,5 +1,4 @@
 -- `frame_wire::last_at` meets its contract. Assumes nothing.
-use borrow.Author.Rules.{rules}
 use Rattle.frame_wire.specs.Line.{last_of}
 use Rattle.laws.specs.Choice.{cases}
 use Rattle.frame_wire.proofs.last_at.Goals as goal

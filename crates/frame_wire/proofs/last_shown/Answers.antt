@@ -1,5 +1,4 @@
 -- `frame_wire::last_shown` meets its contract. Assumes nothing.
-use borrow.Author.Rules.{rules}
 use Rattle.frame_wire.specs.Line.{last_shown}
 use Rattle.frame_wire.proofs.last_shown.Goals as goal
 

@@ -1,11 +1,10 @@
 -- `fx_replay::replay` meets its contract. Assumes nothing.
 use mathlib.Core.Path.{◌≡◌, refl, sym, ◌∙◌}
-use Prim.Native.Nat.{◌+◌, ◌-◌, ◌*◌, ◌≤◌}
+use Prim.Native.Nat.{◌+◌, ◌-◌, ◌*◌}
 use native.Mathlib.Omega.{arith}
-use lib.ListN.{length}
-use Rattle.fx_replay.specs.Replay.{replayed, answer_bytes, same}
+use Rattle.fx_replay.specs.Replay.{answer_bytes, same}
 use Rattle.fx_replay.proofs.Laws.{length_answer}
-use Rattle.wire.proofs.Blocks.{so_far, replay-more, replay-none, replay-all}
+use Rattle.wire.proofs.Blocks.{replay-more, replay-none, replay-all}
 use Rattle.fx_replay.proofs.replay.Goals as goal
 
 pub loop-i-init : goal.loop-i-init

@@ -1,10 +1,8 @@
-use mathlib.Core.Path.{◌≡◌, refl, sym, ◌∙◌}
-use Prim.Native.Nat.{◌+◌, ◌-◌, ◌*◌, ◌≤◌}
-use native.Mathlib.Omega.{arith}
-use lib.ListN.{length}
+use mathlib.Core.Path.{◌≡◌}
+use Prim.Native.Nat.{◌-◌, ◌*◌, ◌≤◌}
 use Rattle.fx_replay.specs.Replay.{replayed, answer_bytes, same}
 use Rattle.fx_replay.proofs.Laws.{length_answer}
-use Rattle.wire.proofs.Blocks.{so_far, replay-more, replay-none, replay-all}
+use Rattle.wire.proofs.Blocks.{so_far}
 use Rattle.fx_replay.proofs.replay.Given as goal
 
 abbrev pub invariant-loop-i : goal.invariant-loop-i

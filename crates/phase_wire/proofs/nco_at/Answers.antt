@@ -1,7 +1,6 @@
 -- `phase_wire::nco_at` meets its contract. Assumes nothing.
 use Rattle.phase_wire.specs.Given.{nco_of}
 use mir.Facts.{to_z-of_z}
-use borrow.Author.Rules.{rules}
 use Rattle.phase_wire.proofs.nco_at.Goals as goal
 
 pub returns : goal.returns

@@ -3,7 +3,6 @@ use Rattle.phase_wire.specs.Given.{phase_of}
 use Rattle.laws.specs.Choice.{if_yes, if_no}
 use borrow.Author.Tests.{eq-eqb, ne_eqb}
 use mathlib.Core.Path.{sym}
-use borrow.Author.Rules.{rules}
 use Rattle.phase_wire.proofs.phase_at.Goals as goal
 
 pub returns-then-p-eq0 : goal.returns-then-p-eq0

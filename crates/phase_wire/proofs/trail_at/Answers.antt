@@ -4,7 +4,6 @@ use Rattle.laws.specs.Choice.{if_yes, if_no}
 use borrow.Author.Tests.{eq-eqb, ne_eqb}
 use mathlib.Core.Path.{sym}
 use mir.Facts.{to_z-of_z}
-use borrow.Author.Rules.{rules}
 use Rattle.phase_wire.proofs.trail_at.Goals as goal
 
 pub returns-then-p-eq0 : goal.returns-then-p-eq0

@@ -1,6 +1,5 @@
 -- `receiver_calls::answered` meets its contract. Assumes nothing.
-use Rattle.receiver_calls.specs.Calls.{answered_turn, plain}
-use borrow.Author.Rules.{rules}
+use Rattle.receiver_calls.specs.Calls.{answered_turn}
 use Rattle.receiver_calls.proofs.answered.Goals as goal
 
 pub returns : goal.returns

@@ -1,9 +1,7 @@
 -- `receiver_calls::free` meets its contract. Assumes nothing.
 use native.Mathlib.Omega.{arith}
 use Rattle.receiver_calls.proofs.Laws.{plain-none}
-use Rattle.receiver_calls.specs.Calls.{plain}
 use Rattle.receiver_calls.specs.Turns.{plain_of}
-use borrow.Author.Rules.{rules}
 use mathlib.Core.Path.{◌∙◌}
 use Rattle.receiver_calls.proofs.free.Goals as goal
 

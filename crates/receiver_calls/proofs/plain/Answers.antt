@@ -1,6 +1,5 @@
 -- `receiver_calls::plain` meets its contract. Assumes nothing.
 use Rattle.receiver_calls.specs.Calls.{plain}
-use borrow.Author.Rules.{rules}
 use Rattle.receiver_calls.proofs.plain.Goals as goal
 
 pub returns : goal.returns

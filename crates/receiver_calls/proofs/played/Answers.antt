@@ -1,6 +1,5 @@
 -- `receiver_calls::played` meets its contract. Assumes nothing.
 use Rattle.receiver_calls.specs.Calls.{played_turn}
-use borrow.Author.Rules.{rules}
 use Rattle.receiver_calls.proofs.played.Goals as goal
 
 pub returns : goal.returns

@@ -1,5 +1,4 @@
 -- `receiver_calls::turn` meets its contract. Assumes nothing.
-use borrow.Author.Rules.{rules}
 use Rattle.receiver_calls.specs.Turns.{turn_of}
 use Rattle.laws.specs.Choice.{cases}
 use Rattle.receiver_calls.proofs.turn.Goals as goal

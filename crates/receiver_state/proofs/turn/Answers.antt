@@ -1,5 +1,4 @@
 -- `receiver_state::turn` meets its contract. Assumes nothing.
-use borrow.Author.Rules.{rules}
 use Rattle.receiver_state.specs.Turns.{turn_of}
 use Rattle.receiver_state.proofs.turn.Goals as goal
 

@@ -1,6 +1,5 @@
 -- `slot_wire::slot_shown` meets its contract. Assumes nothing.
 use Rattle.slot_wire.specs.Slots.{slot_shown}
-use borrow.Author.Rules.{rules}
 use Rattle.slot_wire.proofs.slot_shown.Goals as goal
 
 pub returns-in-Unknown : goal.returns-in-Unknown

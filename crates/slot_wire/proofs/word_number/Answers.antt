@@ -1,6 +1,5 @@
 -- `slot_wire::word_number` meets its contract. Assumes nothing.
 use Rattle.slot_wire.specs.Slots.{word_number}
-use borrow.Author.Rules.{rules}
 use Rattle.slot_wire.proofs.word_number.Goals as goal
 
 pub returns-in-Ssync : goal.returns-in-Ssync

@@ -1,5 +1,4 @@
 -- `sync_wire::heads_put` meets its contract. Assumes nothing.
-use borrow.Author.Rules.{rules}
 use Rattle.sync_wire.specs.Given.{heads_put}
 use Rattle.sync_wire.proofs.heads_put.Goals as goal
 

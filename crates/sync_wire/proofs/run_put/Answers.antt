@@ -1,5 +1,4 @@
 -- `sync_wire::run_put` meets its contract. Assumes nothing.
-use borrow.Author.Rules.{rules}
 use Rattle.sync_wire.specs.Given.{run_put}
 use Rattle.sync_wire.proofs.run_put.Goals as goal
 

@@ -1,11 +1,9 @@
 -- `sync_wire::window_at` meets its contract. Assumes nothing.
-use Prim.Native.Nat.{◌-◌, ◌≤◌}
 use Rattle.laws.proofs.Lists.{firsts-step}
 use Rattle.laws.specs.Ranges.{firsts}
 use Rattle.sync_wire.specs.Given.{window_at, window_of}
-use borrow.Author.Rules.{rules}
 use lib.ListN.{drop, drop_of_length-le}
-use mathlib.Core.List.{[], ◌++◌, append-nil}
+use mathlib.Core.List.{[], append-nil}
 use mathlib.Core.Path.{◌∙◌, ◌≡◌, refl}
 use mir.Facts.{to_z-of_z}
 use native.Mathlib.Omega.{arith}

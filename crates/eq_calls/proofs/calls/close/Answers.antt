@@ -1,6 +1,5 @@
 -- `eq_calls::calls::close` meets its contract. Assumes nothing.
 use Rattle.eq_calls.specs.Calls.{close_call}
-use borrow.Author.Rules.{rules}
 use Rattle.eq_calls.proofs.calls.close.Goals as goal
 
 pub returns : goal.returns

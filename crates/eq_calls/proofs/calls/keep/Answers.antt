@@ -1,6 +1,5 @@
 -- `eq_calls::calls::keep` meets its contract. Assumes nothing.
 use Rattle.eq_calls.specs.Calls.{keep_call}
-use borrow.Author.Rules.{rules}
 use Rattle.eq_calls.proofs.calls.keep.Goals as goal
 
 pub returns : goal.returns

@@ -1,6 +1,5 @@
 -- `eq_calls::calls::line` meets its contract. Assumes nothing.
 use Rattle.eq_calls.specs.Calls.{line_call}
-use borrow.Author.Rules.{rules}
 use Rattle.eq_calls.proofs.calls.line.Goals as goal
 
 pub returns : goal.returns

@@ -1,6 +1,5 @@
 -- `eq_calls::calls::load` meets its contract. Assumes nothing.
 use Rattle.eq_calls.specs.Calls.{load_call}
-use borrow.Author.Rules.{rules}
 use Rattle.eq_calls.proofs.calls.load.Goals as goal
 
 pub returns : goal.returns

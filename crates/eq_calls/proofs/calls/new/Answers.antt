@@ -1,6 +1,5 @@
 -- `eq_calls::calls::new` meets its contract. Assumes nothing.
 use Rattle.eq_calls.specs.Calls.{new_call}
-use borrow.Author.Rules.{rules}
 use Rattle.eq_calls.proofs.calls.new.Goals as goal
 
 pub returns : goal.returns

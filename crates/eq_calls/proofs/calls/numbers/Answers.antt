@@ -1,6 +1,5 @@
 -- `eq_calls::calls::numbers` meets its contract. Assumes nothing.
 use Rattle.eq_calls.specs.Calls.{numbers_call}
-use borrow.Author.Rules.{rules}
 use Rattle.eq_calls.proofs.calls.numbers.Goals as goal
 
 pub returns : goal.returns

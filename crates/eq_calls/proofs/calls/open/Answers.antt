@@ -1,6 +1,5 @@
 -- `eq_calls::calls::open` meets its contract. Assumes nothing.
 use Rattle.eq_calls.specs.Calls.{open_call}
-use borrow.Author.Rules.{rules}
 use Rattle.eq_calls.proofs.calls.open.Goals as goal
 
 pub returns : goal.returns

@@ -1,6 +1,5 @@
 -- `eq_calls::calls::output` meets its contract. Assumes nothing.
 use Rattle.eq_calls.specs.Calls.{output_call}
-use borrow.Author.Rules.{rules}
 use Rattle.eq_calls.proofs.calls.output.Goals as goal
 
 pub returns : goal.returns

@@ -1,6 +1,5 @@
 -- `eq_calls::calls::plain` meets its contract. Assumes nothing.
 use Rattle.eq_calls.specs.Calls.{plain}
-use borrow.Author.Rules.{rules}
 use Rattle.eq_calls.proofs.calls.plain.Goals as goal
 
 pub returns : goal.returns

@@ -1,6 +1,5 @@
 -- `eq_calls::calls::restart` meets its contract. Assumes nothing.
 use Rattle.eq_calls.specs.Calls.{restart_call}
-use borrow.Author.Rules.{rules}
 use Rattle.eq_calls.proofs.calls.restart.Goals as goal
 
 pub returns : goal.returns

@@ -1,6 +1,5 @@
 -- `eq_calls::calls::right` meets its contract. Assumes nothing.
 use Rattle.eq_calls.specs.Calls.{right_call}
-use borrow.Author.Rules.{rules}
 use Rattle.eq_calls.proofs.calls.right.Goals as goal
 
 pub returns : goal.returns

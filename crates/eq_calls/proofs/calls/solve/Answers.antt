@@ -1,6 +1,5 @@
 -- `eq_calls::calls::solve` meets its contract. Assumes nothing.
 use Rattle.eq_calls.specs.Calls.{solve_call}
-use borrow.Author.Rules.{rules}
 use Rattle.eq_calls.proofs.calls.solve.Goals as goal
 
 pub returns : goal.returns

@@ -2,7 +2,6 @@
 use Rattle.laws.proofs.Size.{back}
 use mir.Syntax.{w16}
 use Rattle.eq_calls.specs.Calls.{train_call}
-use borrow.Author.Rules.{rules}
 use Rattle.eq_calls.proofs.calls.train.Goals as goal
 
 pub returns : goal.returns

@@ -1,6 +1,5 @@
 -- `eq_calls::calls::upper` meets its contract. Assumes nothing.
 use Rattle.eq_calls.specs.Calls.{upper_call}
-use borrow.Author.Rules.{rules}
 use Rattle.eq_calls.proofs.calls.upper.Goals as goal
 
 pub returns : goal.returns

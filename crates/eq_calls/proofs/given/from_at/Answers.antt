@@ -3,7 +3,6 @@ use Rattle.laws.specs.Choice.{if_yes, if_no}
 use mathlib.Core.Path.{sym}
 use borrow.Author.Tests.{eq-eqb, ne_eqb}
 use Rattle.eq_calls.specs.Given.{from_of}
-use borrow.Author.Rules.{rules}
 use Rattle.eq_calls.proofs.given.from_at.Goals as goal
 
 pub returns-then-p-eq0 : goal.returns-then-p-eq0

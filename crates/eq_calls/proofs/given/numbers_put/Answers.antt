@@ -1,6 +1,5 @@
 -- `eq_calls::given::numbers_put` meets its contract. Assumes nothing.
 use Rattle.eq_calls.specs.Given.{numbers_put}
-use borrow.Author.Rules.{rules}
 use Rattle.eq_calls.proofs.given.numbers_put.Goals as goal
 
 pub returns : goal.returns

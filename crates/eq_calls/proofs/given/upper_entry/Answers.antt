@@ -4,7 +4,6 @@ use Rattle.laws.specs.Choice.{if_yes, if_no}
 use mathlib.Core.Path.{sym}
 use borrow.Author.Tests.{eq-eqb, ne_eqb}
 use Rattle.eq_calls.specs.Given.{upper_entry}
-use borrow.Author.Rules.{rules}
 use Rattle.eq_calls.proofs.given.upper_entry.Goals as goal
 
 pub returns-then-j-group : goal.returns-then-j-group

@@ -1,15 +1,13 @@
 -- `eq_calls::given::upper_of` meets its contract. Assumes nothing.
-use Prim.Native.Nat.{◌-◌, ◌≤◌}
 use Rattle.laws.proofs.Lists.{firsts-step}
 use Rattle.laws.specs.Ranges.{firsts}
 use lib.ListN.{drop, drop_of_length-le}
-use mathlib.Core.List.{[], ◌++◌, append-nil}
+use mathlib.Core.List.{[], append-nil}
 use mathlib.Core.Path.{◌∙◌, ◌≡◌, refl}
 use native.Mathlib.Omega.{arith}
 use Rattle.eq_calls.specs.Given.{upper_entry, upper_of}
 use mir.Facts.{to_z-of_z}
 use mir.Syntax.{w64}
-use borrow.Author.Rules.{rules}
 use Rattle.eq_calls.proofs.given.upper_of.Goals as goal
 
 pub loop-j-init : goal.loop-j-init

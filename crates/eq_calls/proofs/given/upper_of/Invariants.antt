@@ -1,13 +1,9 @@
 use Prim.Native.Nat.{◌-◌, ◌≤◌}
-use Rattle.laws.proofs.Lists.{firsts-step}
 use Rattle.laws.specs.Ranges.{firsts}
-use lib.ListN.{drop, drop_of_length-le}
-use mathlib.Core.List.{[], ◌++◌, append-nil}
-use mathlib.Core.Path.{◌∙◌, ◌≡◌, refl}
-use native.Mathlib.Omega.{arith}
-use Rattle.eq_calls.specs.Given.{upper_entry, upper_of}
-use mir.Facts.{to_z-of_z}
-use borrow.Author.Rules.{rules}
+use lib.ListN.{drop}
+use mathlib.Core.List.{◌++◌}
+use mathlib.Core.Path.{◌≡◌}
+use Rattle.eq_calls.specs.Given.{upper_entry}
 use Rattle.eq_calls.proofs.given.upper_of.Given as goal
 
 abbrev pub invariant-loop-j : goal.invariant-loop-j

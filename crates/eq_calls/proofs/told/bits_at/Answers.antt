@@ -1,7 +1,6 @@
 -- `eq_calls::told::bits_at` meets its contract. Assumes nothing.
 use mir.Facts.{to_z-of_z}
 use Rattle.eq_calls.specs.Told.{bits_at}
-use borrow.Author.Rules.{rules}
 use Rattle.eq_calls.proofs.told.bits_at.Goals as goal
 
 pub returns : goal.returns

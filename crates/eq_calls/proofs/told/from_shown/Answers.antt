@@ -1,6 +1,5 @@
 -- `eq_calls::told::from_shown` meets its contract. Assumes nothing.
 use Rattle.eq_calls.specs.Told.{from_shown}
-use borrow.Author.Rules.{rules}
 use Rattle.eq_calls.proofs.told.from_shown.Goals as goal
 
 pub returns-in-Identity : goal.returns-in-Identity

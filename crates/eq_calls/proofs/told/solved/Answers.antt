@@ -1,13 +1,11 @@
 -- `eq_calls::told::solved` meets its contract. Assumes nothing.
-use Prim.Native.Nat.{◌-◌, ◌≤◌}
 use Rattle.laws.proofs.Lists.{firsts-step}
 use Rattle.laws.specs.Ranges.{firsts}
 use lib.ListN.{drop, drop_of_length-le}
-use mathlib.Core.List.{[], ◌++◌, append-nil}
+use mathlib.Core.List.{[], append-nil}
 use mathlib.Core.Path.{◌∙◌, ◌≡◌, refl}
 use native.Mathlib.Omega.{arith}
 use Rattle.eq_calls.specs.Told.{solved_at, solved_told}
-use borrow.Author.Rules.{rules}
 use Rattle.eq_calls.proofs.told.solved.Goals as goal
 
 pub loop-k-init : goal.loop-k-init

@@ -1,12 +1,9 @@
 use Prim.Native.Nat.{◌-◌, ◌≤◌}
-use Rattle.laws.proofs.Lists.{firsts-step}
 use Rattle.laws.specs.Ranges.{firsts}
-use lib.ListN.{drop, drop_of_length-le}
-use mathlib.Core.List.{[], ◌++◌, append-nil}
-use mathlib.Core.Path.{◌∙◌, ◌≡◌, refl}
-use native.Mathlib.Omega.{arith}
-use Rattle.eq_calls.specs.Told.{solved_at, solved_told}
-use borrow.Author.Rules.{rules}
+use lib.ListN.{drop}
+use mathlib.Core.List.{◌++◌}
+use mathlib.Core.Path.{◌≡◌}
+use Rattle.eq_calls.specs.Told.{solved_at}
 use Rattle.eq_calls.proofs.told.solved.Given as goal
 
 abbrev pub invariant-loop-k : goal.invariant-loop-k

@@ -3,7 +3,6 @@ use Rattle.laws.specs.Choice.{if_yes, if_no}
 use mathlib.Core.Path.{◌∙◌, sym}
 use borrow.Author.Tests.{eq-eqb, ne_eqb, lt-ltb, le-ltb}
 use Rattle.eq_calls.specs.Told.{solved_at}
-use borrow.Author.Rules.{rules}
 use Rattle.eq_calls.proofs.told.solved_at.Goals as goal
 
 pub returns-then-k-eq0 : goal.returns-then-k-eq0

@@ -1,6 +1,5 @@
 -- `eq_calls::told::sums_shown` meets its contract. Assumes nothing.
 use Rattle.eq_calls.specs.Told.{sums_shown}
-use borrow.Author.Rules.{rules}
 use Rattle.eq_calls.proofs.told.sums_shown.Goals as goal
 
 pub returns : goal.returns

@@ -1,6 +1,5 @@
 -- `eq_calls::told::told` meets its contract. Assumes nothing.
 use Rattle.eq_calls.specs.Told.{told_of}
-use borrow.Author.Rules.{rules}
 use Rattle.eq_calls.proofs.told.told.Goals as goal
 
 pub returns : goal.returns

@@ -1,6 +1,5 @@
 -- `frame_wire::ranged::meta_at` meets its contract. Assumes nothing.
 use Rattle.frame_wire.specs.Line.{meta_at}
-use borrow.Author.Rules.{rules}
 use Rattle.frame_wire.proofs.ranged.meta_at.Goals as goal
 
 pub returns : goal.returns

@@ -1,11 +1,7 @@
 -- `fx_replay::call::replace` meets its contract. Assumes nothing.
-use mathlib.Core.List.{List, ◌++◌}
-use mathlib.Core.Path.{◌≡◌, refl, ap, ◌∙◌}
-use Prim.Native.Nat.{ℕ, ◌-◌}
-use native.Mathlib.Omega.{arith}
-use borrow.Author.Rules.{rules}
-use lib.ListN.{length, take, drop, length-drop}
-use lib.Seq.{take_all}
+use mathlib.Core.List.{List}
+use Prim.Native.Nat.{ℕ}
+use lib.ListN.{drop}
 use Rattle.fx_replay.specs.Replay.{answer_bytes}
 use Rattle.fx_replay.proofs.Laws.{length_answer}
 use Rattle.wire.proofs.Blocks.{put_all, from_on}

@@ -1,7 +1,6 @@
 -- `phase_wire::ranged::head_at` meets its contract. Assumes nothing.
 use Rattle.phase_wire.specs.Given.{head_of}
 use mir.Facts.{to_z-of_z}
-use borrow.Author.Rules.{rules}
 use Rattle.phase_wire.proofs.ranged.head_at.Goals as goal
 
 pub returns : goal.returns

@@ -1,6 +1,5 @@
 -- `phase_wire::told::phase` meets its contract. Assumes nothing.
 use Rattle.phase_wire.specs.Told.{phase_told}
-use borrow.Author.Rules.{rules}
 use Rattle.phase_wire.proofs.told.phase.Goals as goal
 
 pub returns-in-Idle : goal.returns-in-Idle

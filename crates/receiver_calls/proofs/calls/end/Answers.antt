@@ -1,6 +1,5 @@
 -- `receiver_calls::calls::end` meets its contract. Assumes nothing.
 use Rattle.receiver_calls.specs.Calls.{end_call}
-use borrow.Author.Rules.{rules}
 use Rattle.receiver_calls.proofs.calls.end.Goals as goal
 
 pub returns : goal.returns

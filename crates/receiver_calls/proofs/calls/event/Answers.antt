@@ -1,6 +1,5 @@
 -- `receiver_calls::calls::event` meets its contract. Assumes nothing.
 use Rattle.receiver_calls.specs.Calls.{event_call}
-use borrow.Author.Rules.{rules}
 use Rattle.receiver_calls.proofs.calls.event.Goals as goal
 
 pub returns : goal.returns

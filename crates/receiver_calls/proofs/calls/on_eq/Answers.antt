@@ -1,7 +1,6 @@
 -- `receiver_calls::calls::on_eq` meets its contract. Assumes nothing.
 use Rattle.receiver.specs.Answers.{with_eq}
 use Rattle.receiver_calls.specs.Calls.{eq_call}
-use borrow.Author.Rules.{rules}
 use Rattle.receiver_calls.proofs.calls.on_eq.Goals as goal
 
 pub returns : goal.returns

@@ -1,5 +1,4 @@
 -- `receiver_calls::calls::on_state` meets its contract. Assumes nothing.
-use borrow.Author.Rules.{rules}
 use Rattle.receiver_calls.specs.Calls.{state_call}
 use Rattle.receiver_calls.proofs.calls.on_state.Goals as goal
 

@@ -1,6 +1,5 @@
 -- `receiver_calls::calls::taps` meets its contract. Assumes nothing.
 use Rattle.receiver_calls.specs.Calls.{taps_call}
-use borrow.Author.Rules.{rules}
 use Rattle.receiver_calls.proofs.calls.taps.Goals as goal
 
 pub returns : goal.returns

@@ -1,6 +1,5 @@
 -- `receiver_calls::calls::words` meets its contract. Assumes nothing.
-use Rattle.receiver_calls.specs.Calls.{plain, words_call}
-use borrow.Author.Rules.{rules}
+use Rattle.receiver_calls.specs.Calls.{words_call}
 use Rattle.receiver_calls.proofs.calls.words.Goals as goal
 
 pub returns : goal.returns

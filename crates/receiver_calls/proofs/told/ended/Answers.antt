@@ -1,6 +1,5 @@
 -- `receiver_calls::told::ended` meets its contract. Assumes nothing.
 use Rattle.receiver_calls.specs.Told.{ended_told}
-use borrow.Author.Rules.{rules}
 use Rattle.receiver_calls.proofs.told.ended.Goals as goal
 
 pub returns : goal.returns

@@ -1,6 +1,5 @@
 -- `receiver_calls::told::event` meets its contract. Assumes nothing.
 use Rattle.receiver_calls.specs.Told.{event_told}
-use borrow.Author.Rules.{rules}
 use Rattle.receiver_calls.proofs.told.event.Goals as goal
 
 pub returns-in-Nothing : goal.returns-in-Nothing

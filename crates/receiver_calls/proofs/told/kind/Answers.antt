@@ -1,6 +1,5 @@
 -- `receiver_calls::told::kind` meets its contract. Assumes nothing.
 use Rattle.receiver_calls.specs.Told.{kind_of}
-use borrow.Author.Rules.{rules}
 use Rattle.receiver_calls.proofs.told.kind.Goals as goal
 
 pub returns-in-Nothing : goal.returns-in-Nothing

@@ -1,6 +1,5 @@
 -- `receiver_calls::told::period` meets its contract. Assumes nothing.
 use Rattle.receiver_calls.specs.Told.{period_told}
-use borrow.Author.Rules.{rules}
 use Rattle.receiver_calls.proofs.told.period.Goals as goal
 
 pub returns : goal.returns

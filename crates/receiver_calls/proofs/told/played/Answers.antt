@@ -1,6 +1,5 @@
 -- `receiver_calls::told::played` meets its contract. Assumes nothing.
 use Rattle.receiver_calls.specs.Told.{played_told}
-use borrow.Author.Rules.{rules}
 use Rattle.receiver_calls.proofs.told.played.Goals as goal
 
 pub returns : goal.returns

@@ -1,5 +1,4 @@
 -- `receiver_state::put::carrier` meets its contract. Assumes nothing.
-use borrow.Author.Rules.{rules}
 use Rattle.receiver_state.specs.Put.{carrier_put}
 use Rattle.receiver_state.proofs.put.carrier.Goals as goal
 

@@ -1,5 +1,4 @@
 -- `receiver_state::put::heads` meets its contract. Assumes nothing.
-use borrow.Author.Rules.{rules}
 use Rattle.receiver_state.specs.Put.{heads_put_in}
 use Rattle.receiver_state.proofs.put.heads.Goals as goal
 

@@ -1,5 +1,4 @@
 -- `receiver_state::put::part` meets its contract. Assumes nothing.
-use borrow.Author.Rules.{rules}
 use Rattle.receiver_state.specs.Put.{part_put}
 use Rattle.laws.specs.Choice.{cases}
 use Rattle.receiver_state.proofs.put.part.Goals as goal

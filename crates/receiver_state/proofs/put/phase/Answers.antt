@@ -1,5 +1,4 @@
 -- `receiver_state::put::phase` meets its contract. Assumes nothing.
-use borrow.Author.Rules.{rules}
 use Rattle.receiver_state.specs.Put.{phase_put}
 use Rattle.receiver_state.proofs.put.phase.Goals as goal
 

@@ -1,5 +1,4 @@
 -- `receiver_state::put::points` meets its contract. Assumes nothing.
-use borrow.Author.Rules.{rules}
 use Rattle.receiver_state.specs.Put.{points_put}
 use Rattle.receiver_state.proofs.put.points.Goals as goal
 

@@ -1,11 +1,9 @@
 -- `receiver_state::put::points_at` meets its contract. Assumes nothing.
-use Prim.Native.Nat.{◌-◌, ◌≤◌}
 use Rattle.laws.proofs.Lists.{firsts-step}
 use Rattle.laws.specs.Ranges.{firsts}
 use Rattle.receiver_state.specs.Put.{point_at, points_of}
-use borrow.Author.Rules.{rules}
 use lib.ListN.{drop, drop_of_length-le}
-use mathlib.Core.List.{[], ◌++◌, append-nil}
+use mathlib.Core.List.{[], append-nil}
 use mathlib.Core.Path.{◌∙◌, ◌≡◌, refl}
 use mir.Facts.{to_z-of_z}
 use mir.Syntax.{w16}

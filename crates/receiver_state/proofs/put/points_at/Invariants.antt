@@ -1,13 +1,9 @@
 use Prim.Native.Nat.{◌-◌, ◌≤◌}
-use Rattle.laws.proofs.Lists.{firsts-step}
 use Rattle.laws.specs.Ranges.{firsts}
-use Rattle.receiver_state.specs.Put.{point_at, points_of}
-use borrow.Author.Rules.{rules}
-use lib.ListN.{drop, drop_of_length-le}
-use mathlib.Core.List.{[], ◌++◌, append-nil}
-use mathlib.Core.Path.{◌∙◌, ◌≡◌, refl}
-use mir.Facts.{to_z-of_z}
-use native.Mathlib.Omega.{arith}
+use Rattle.receiver_state.specs.Put.{point_at}
+use lib.ListN.{drop}
+use mathlib.Core.List.{◌++◌}
+use mathlib.Core.Path.{◌≡◌}
 use Rattle.receiver_state.proofs.put.points_at.Given as goal
 
 abbrev pub invariant-loop-k : goal.invariant-loop-k

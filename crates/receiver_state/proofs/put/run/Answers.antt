@@ -1,5 +1,4 @@
 -- `receiver_state::put::run` meets its contract. Assumes nothing.
-use borrow.Author.Rules.{rules}
 use Rattle.receiver_state.specs.Put.{run_put_in}
 use Rattle.receiver_state.proofs.put.run.Goals as goal
 

@@ -1,5 +1,4 @@
 -- `receiver_state::put::waiting` meets its contract. Assumes nothing.
-use borrow.Author.Rules.{rules}
 use Rattle.receiver_state.specs.Put.{waiting_put}
 use Rattle.receiver_state.proofs.put.waiting.Goals as goal
 

@@ -1,5 +1,4 @@
 -- `receiver_state::put::window` meets its contract. Assumes nothing.
-use borrow.Author.Rules.{rules}
 use Rattle.receiver_state.specs.Put.{window_put}
 use Rattle.receiver_state.proofs.put.window.Goals as goal
 

@@ -1,6 +1,5 @@
 -- `receiver_state::told::part` meets its contract. Assumes nothing.
 use native.Mathlib.Omega.{arith}
-use borrow.Author.Rules.{rules}
 use Rattle.receiver_state.specs.Told.{part_told}
 use Rattle.receiver_state.proofs.Laws.{told_none}
 use mathlib.Core.Path.{◌∙◌}

@@ -1,5 +1,4 @@
 -- `receiver_state::told::points` meets its contract. Assumes nothing.
-use borrow.Author.Rules.{rules}
 use Rattle.receiver_state.specs.Told.{points_told}
 use Rattle.receiver_state.proofs.told.points.Goals as goal
 

@@ -1,5 +1,4 @@
 -- `receiver_state::told::waiting` meets its contract. Assumes nothing.
-use borrow.Author.Rules.{rules}
 use Rattle.receiver_state.specs.Told.{waiting_told}
 use Rattle.receiver_state.proofs.told.waiting.Goals as goal
 

@@ -1,5 +1,4 @@
 -- `receiver_state::told::window` meets its contract. Assumes nothing.
-use borrow.Author.Rules.{rules}
 use Rattle.receiver_state.specs.Told.{window_told}
 use Rattle.receiver_state.proofs.told.window.Goals as goal
 

@@ -1,5 +1,4 @@
 -- `receiver_state::with::meta` meets its contract. Assumes nothing.
-use borrow.Author.Rules.{rules}
 use Rattle.receiver_state.specs.With.{meta_put}
 use Rattle.receiver_state.proofs.with.meta.Goals as goal
 

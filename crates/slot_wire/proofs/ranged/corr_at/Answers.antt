@@ -1,7 +1,6 @@
 -- `slot_wire::ranged::corr_at` meets its contract. Assumes nothing.
 use Rattle.slot_wire.specs.Slots.{corr_of}
 use mir.Facts.{to_z-of_z}
-use borrow.Author.Rules.{rules}
 use Rattle.slot_wire.proofs.ranged.corr_at.Goals as goal
 
 pub returns : goal.returns

@@ -3,7 +3,6 @@ use Rattle.slot_wire.specs.Slots.{slot_of}
 use Rattle.laws.specs.Choice.{if_yes, if_no}
 use borrow.Author.Tests.{eq-eqb, ne_eqb}
 use mathlib.Core.Path.{sym}
-use borrow.Author.Rules.{rules}
 use Rattle.slot_wire.proofs.ranged.slot_at.Goals as goal
 
 pub returns-then-p-k-eq0 : goal.returns-then-p-k-eq0

@@ -1,5 +1,4 @@
 -- `sync_wire::given::course_at` meets its contract. Assumes nothing.
-use borrow.Author.Rules.{rules}
 use Rattle.sync_wire.specs.Given.{course_of}
 use mir.Facts.{to_z-of_z}
 use Rattle.sync_wire.proofs.given.course_at.Goals as goal

@@ -1,5 +1,4 @@
 -- `sync_wire::given::lock_at` meets its contract. Assumes nothing.
-use borrow.Author.Rules.{rules}
 use Rattle.sync_wire.specs.Given.{lock_of}
 use Rattle.laws.specs.Choice.{cases}
 use Rattle.sync_wire.proofs.given.lock_at.Goals as goal

@@ -1,5 +1,4 @@
 -- `sync_wire::given::record_at` meets its contract. Assumes nothing.
-use borrow.Author.Rules.{rules}
 use Rattle.sync_wire.specs.Given.{record_of}
 use Rattle.laws.specs.Choice.{cases}
 use Rattle.sync_wire.proofs.given.record_at.Goals as goal

@@ -1,5 +1,4 @@
 -- `sync_wire::given::stage_at` meets its contract. Assumes nothing.
-use borrow.Author.Rules.{rules}
 use Rattle.sync_wire.specs.Given.{stage_of}
 use Rattle.laws.specs.Choice.{if_no, if_yes}
 use borrow.Author.Tests.{eq-eqb, ne_eqb}

@@ -1,5 +1,4 @@
 -- `sync_wire::given::tally_at` meets its contract. Assumes nothing.
-use borrow.Author.Rules.{rules}
 use Rattle.sync_wire.specs.Given.{tally_of}
 use Rattle.sync_wire.proofs.given.tally_at.Goals as goal
 

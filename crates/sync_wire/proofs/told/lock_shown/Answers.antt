@@ -1,5 +1,4 @@
 -- `sync_wire::told::lock_shown` meets its contract. Assumes nothing.
-use borrow.Author.Rules.{rules}
 use Rattle.sync_wire.specs.Told.{lock_shown}
 use Rattle.sync_wire.proofs.told.lock_shown.Goals as goal
 

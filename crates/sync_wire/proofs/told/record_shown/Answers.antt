@@ -1,5 +1,4 @@
 -- `sync_wire::told::record_shown` meets its contract. Assumes nothing.
-use borrow.Author.Rules.{rules}
 use Rattle.sync_wire.specs.Told.{record_shown}
 use Rattle.sync_wire.proofs.told.record_shown.Goals as goal
 

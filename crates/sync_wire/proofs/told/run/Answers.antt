@@ -1,5 +1,4 @@
 -- `sync_wire::told::run` meets its contract. Assumes nothing.
-use borrow.Author.Rules.{rules}
 use Rattle.sync_wire.specs.Told.{run_told}
 use Rattle.sync_wire.proofs.told.run.Goals as goal
 
