@@ -20,12 +20,12 @@ trace() {
     "$out/traces"
 }
 
-cp "$here/src/receiver/traces_head.txt" "$made/Traces.antt"
+cp "$here/src/receiver/traces_head.txt" "$made/traces.txt"
 for slot in 64 24 3; do
-    trace "$slot" >>"$made/Traces.antt"
+    trace "$slot" >>"$made/traces.txt"
 done
 if [ "${1:-}" = --check ]; then
-    diff "$file" "$made/Traces.antt" && echo "the traces are those of the Rust"
+    diff "$file" "$made/traces.txt" && echo "the traces are those of the Rust"
 else
-    cp "$made/Traces.antt" "$file"
+    cp "$made/traces.txt" "$file"
 fi
