@@ -72,11 +72,11 @@ need_replay() {
     done
 }
 
-# link DIR FILE...: links to the files in DIR, under their own names
-link() {
+# copies DIR FILE...: copies of the files in DIR, under their own names; rt ci refuses links anywhere in the checkout
+copies() {
     local dir=$1; shift
     mkdir -p "$dir"
-    ln -sf "$@" "$dir/"
+    cp -f "$@" "$dir/"
 }
 
 # library EDITION OUT NAME ROOT FLAG...: one library crate
@@ -85,17 +85,17 @@ library() {
     rustc --edition "$edition" --crate-type rlib --crate-name "$name" -C opt-level=$optimised -L "$out" --out-dir "$out" "$@" "$file"
 }
 
-# tree DIR: the module tree of the crate isdbs3_phy, of links to the unchanged files, with shims in the places of what is missing.
-# rustc looks for a module beside the link, not beside the file.
+# tree DIR: the module tree of the crate isdbs3_phy, of copies of the unchanged files, with shims in the places of what is missing.
+# rustc looks for a module beside the file that names it.
 tree() {
     local tree=$1 shims=$here/shims source unused
     source=$(cd "$sources" && pwd)
     rm -rf "$tree"
-    link "$tree/core" "$shims"/isdbs3_core/*.rs "$source/$core/constellation.rs"
-    link "$tree/phy" "$source/$phy/lib.rs" "$source/$phy/eq.rs" "$shims"/isdbs3_phy/{main_signal,sync,tmcc}.rs
-    link "$tree/phy/chain" "$source/$phy/chain"/{mod,fx,sync,phase,eq,demap,frame,tmcc}.rs "$shims/isdbs3_phy/ldpc.rs"
+    copies "$tree/core" "$shims"/isdbs3_core/*.rs "$source/$core/constellation.rs"
+    copies "$tree/phy" "$source/$phy/lib.rs" "$source/$phy/eq.rs" "$shims"/isdbs3_phy/{main_signal,sync,tmcc}.rs
+    copies "$tree/phy/chain" "$source/$phy/chain"/{mod,fx,sync,phase,eq,demap,frame,tmcc}.rs "$shims/isdbs3_phy/ldpc.rs"
     for unused in frontend rx chain/input chain/out chain/probe chain/synth; do
-        ln -sf "$shims/isdbs3_phy/empty.rs" "$tree/phy/$unused.rs"
+        cp -f "$shims/isdbs3_phy/empty.rs" "$tree/phy/$unused.rs"
     done
 }
 
