@@ -1,14 +1,11 @@
 -- `eq_replay::replace` meets its contract. Assumes nothing.
-use mathlib.Core.List.{List, ◌++◌}
-use mathlib.Core.Path.{◌≡◌, refl, ap, ◌∙◌}
-use Prim.Native.Nat.{ℕ, ◌-◌}
-use native.Mathlib.Omega.{arith}
-use lib.ListN.{length, take, drop, length-drop}
-use lib.Seq.{take_all}
+use mathlib.Core.List.{List}
+use mathlib.Core.Path.{◌≡◌}
+use Prim.Native.Nat.{ℕ}
+use lib.ListN.{drop}
 use Rattle.wire.proofs.Blocks.{put_all, from_on}
 use Rattle.eq_replay.specs.Replay.{answer_bytes, after}
 use Rattle.eq_replay.proofs.Laws.{length_answer}
-use borrow.Author.Rules.{rules}
 use Rattle.eq_replay.proofs.replace.Goals as goal
 
 pub returns : goal.returns

@@ -1,8 +1,6 @@
-use mathlib.Core.Path.{◌≡◌, refl, sym, ◌∙◌}
-use Prim.Native.Nat.{◌+◌, ◌-◌, ◌*◌, ◌≤◌}
-use native.Mathlib.Omega.{arith}
-use lib.ListN.{length}
-use Rattle.wire.proofs.Blocks.{so_far, left_from, replay-more, replay-none, replay-all}
+use mathlib.Core.Path.{◌≡◌}
+use Prim.Native.Nat.{◌-◌, ◌*◌, ◌≤◌}
+use Rattle.wire.proofs.Blocks.{so_far, left_from}
 use Rattle.eq_replay.specs.Replay.{replayed, left_of, answer_bytes, after}
 use Rattle.eq_replay.proofs.Laws.{length_answer}
 use Rattle.eq_replay.proofs.replay.Given as goal

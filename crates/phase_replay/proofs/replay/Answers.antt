@@ -1,10 +1,9 @@
 -- `phase_replay::replay` meets its contract. Assumes nothing.
-use mathlib.Core.Path.{◌≡◌, refl, sym, ◌∙◌}
-use Prim.Native.Nat.{◌+◌, ◌-◌, ◌*◌, ◌≤◌}
+use mathlib.Core.Path.{◌≡◌, sym, ◌∙◌}
+use Prim.Native.Nat.{◌+◌, ◌-◌, ◌*◌}
 use native.Mathlib.Omega.{arith}
-use lib.ListN.{length}
-use Rattle.wire.proofs.Blocks.{so_far, left_from, replay-more, replay-none, replay-all}
-use Rattle.phase_replay.specs.Replay.{replayed, left_of, answer_bytes, after, lent}
+use Rattle.wire.proofs.Blocks.{replay-more, replay-none, replay-all}
+use Rattle.phase_replay.specs.Replay.{answer_bytes, after, lent}
 use Rattle.phase_replay.proofs.Laws.{length_answer}
 use Rattle.phase_replay.proofs.replay.Goals as goal
 

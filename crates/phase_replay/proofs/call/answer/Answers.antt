@@ -3,7 +3,6 @@ use native.Mathlib.Omega.{arith}
 use Rattle.phase_replay.specs.Replay.{answer_of}
 use mathlib.Core.Path.{◌∙◌}
 use Rattle.phase_replay.proofs.Laws.{answer_none}
-use borrow.Author.Rules.{rules}
 use Rattle.phase_replay.proofs.call.answer.Goals as goal
 
 pub returns-in-0 : goal.returns-in-0

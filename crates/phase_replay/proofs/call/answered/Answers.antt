@@ -4,7 +4,6 @@ use Rattle.phase_replay.specs.Replay.{answer_of, table_of, store_of}
 use Rattle.laws.specs.Choice.{if_yes, if_no}
 use borrow.Author.Tests.{ne_eqb}
 use mathlib.Core.Path.{◌≡◌, refl, sym, ◌∙◌}
-use borrow.Author.Rules.{rules}
 use Rattle.phase_replay.proofs.call.answered.Goals as goal
 
 pub returns-in-13 : goal.returns-in-13

@@ -1,6 +1,5 @@
 -- `phase_replay::calls::due` meets its contract. Assumes nothing.
 use Rattle.phase_replay.specs.Calls.{due_call}
-use borrow.Author.Rules.{rules}
 use Rattle.phase_replay.proofs.calls.due.Goals as goal
 
 pub returns : goal.returns

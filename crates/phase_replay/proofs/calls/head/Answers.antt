@@ -1,6 +1,5 @@
 -- `phase_replay::calls::head` meets its contract. Assumes nothing.
 use Rattle.phase_replay.specs.Calls.{head_call}
-use borrow.Author.Rules.{rules}
 use Rattle.phase_replay.proofs.calls.head.Goals as goal
 
 pub returns : goal.returns

@@ -1,6 +1,5 @@
 -- `phase_replay::calls::hear` meets its contract. Assumes nothing.
 use Rattle.phase_replay.specs.Calls.{hear_call}
-use borrow.Author.Rules.{rules}
 use Rattle.phase_replay.proofs.calls.hear.Goals as goal
 
 pub returns : goal.returns

@@ -1,7 +1,6 @@
 -- `phase_replay::calls::nco_new` meets its contract. Assumes nothing.
 use Rattle.phase_replay.specs.Calls.{new_call}
 use mir.Facts.{to_z-of_z}
-use borrow.Author.Rules.{rules}
 use Rattle.phase_replay.proofs.calls.nco_new.Goals as goal
 
 pub returns : goal.returns

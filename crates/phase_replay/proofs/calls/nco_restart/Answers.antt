@@ -1,6 +1,5 @@
 -- `phase_replay::calls::nco_restart` meets its contract. Assumes nothing.
 use Rattle.phase_replay.specs.Calls.{nco_restart_call}
-use borrow.Author.Rules.{rules}
 use Rattle.phase_replay.proofs.calls.nco_restart.Goals as goal
 
 pub returns : goal.returns

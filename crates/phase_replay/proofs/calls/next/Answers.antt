@@ -1,6 +1,5 @@
 -- `phase_replay::calls::next` meets its contract. Assumes nothing.
 use Rattle.phase_replay.specs.Calls.{next_call}
-use borrow.Author.Rules.{rules}
 use Rattle.phase_replay.proofs.calls.next.Goals as goal
 
 pub returns : goal.returns

@@ -1,6 +1,5 @@
 -- `phase_replay::calls::restart` meets its contract. Assumes nothing.
 use Rattle.phase_replay.specs.Calls.{restart_call}
-use borrow.Author.Rules.{rules}
 use Rattle.phase_replay.proofs.calls.restart.Goals as goal
 
 pub returns : goal.returns

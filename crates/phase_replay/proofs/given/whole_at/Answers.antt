@@ -2,7 +2,6 @@
 use Rattle.phase_replay.specs.Given.{whole_of}
 use Rattle.laws.proofs.Size.{back}
 use mir.Syntax.{w64}
-use borrow.Author.Rules.{rules}
 use Rattle.phase_replay.proofs.given.whole_at.Goals as goal
 
 pub returns : goal.returns

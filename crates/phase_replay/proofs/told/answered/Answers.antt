@@ -1,6 +1,5 @@
 -- `phase_replay::told::answered` meets its contract. Assumes nothing.
 use Rattle.phase_replay.specs.Told.{answered_told}
-use borrow.Author.Rules.{rules}
 use Rattle.phase_replay.proofs.told.answered.Goals as goal
 
 pub returns-in-Nothing : goal.returns-in-Nothing

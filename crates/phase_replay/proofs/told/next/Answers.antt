@@ -1,6 +1,5 @@
 -- `phase_replay::told::next` meets its contract. Assumes nothing.
 use Rattle.phase_replay.specs.Told.{next_told}
-use borrow.Author.Rules.{rules}
 use Rattle.phase_replay.proofs.told.next.Goals as goal
 
 pub returns-in-Nothing : goal.returns-in-Nothing

@@ -1,6 +1,5 @@
 -- `sync_replay::desk::after` meets its contract. Assumes nothing.
 use Rattle.sync_replay.specs.Desk.{after_of}
-use Rattle.std.proofs.Common.{rules}
 use Rattle.sync_replay.proofs.desk.after.Goals as goal
 
 pub returns : goal.returns

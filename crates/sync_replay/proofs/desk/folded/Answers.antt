@@ -1,6 +1,5 @@
 -- `sync_replay::desk::folded` meets its contract. Assumes nothing.
 use Rattle.sync_replay.specs.Desk.{folded_of}
-use Rattle.std.proofs.Common.{rules}
 use Rattle.sync_replay.proofs.desk.folded.Goals as goal
 
 pub returns : goal.returns

@@ -1,6 +1,5 @@
 -- `sync_replay::desk::handed` meets its contract. Assumes nothing.
 use Rattle.sync_replay.specs.Desk.{handed_of}
-use Rattle.std.proofs.Common.{rules}
 use Rattle.sync_replay.proofs.desk.handed.Goals as goal
 
 pub returns : goal.returns

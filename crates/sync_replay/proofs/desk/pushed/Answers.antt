@@ -1,6 +1,6 @@
 -- `sync_replay::desk::pushed` meets its contract. Assumes nothing.
 use Rattle.sync_replay.specs.Desk.{pushed_of}
-use Rattle.std.proofs.Common.{to_z-of_z, rules}
+use Rattle.std.proofs.Common.{to_z-of_z}
 use Rattle.sync_replay.proofs.desk.pushed.Goals as goal
 
 pub returns : goal.returns

@@ -1,7 +1,7 @@
 -- `sync_replay::desk::pushes` meets its contract. Assumes nothing.
-use Rattle.std.proofs.Common.{◌≡◌, ◌-◌, ◌≤◌, length, refl, ◌∙◌, add-one, arith, to_z-of_z, w16, to_z, of_z, rules}
+use Rattle.std.proofs.Common.{◌≡◌, ◌∙◌, add-one, arith, to_z-of_z, w16, to_z, of_z}
 use Rattle.sync_replay.proofs.Laws.{pushes_more, pushes-none, st_eq}
-use Rattle.sync_replay.specs.Desk.{pushes_of, st}
+use Rattle.sync_replay.specs.Desk.{st}
 use Rattle.sync_replay.proofs.desk.pushes.Goals as goal
 
 pub loop-k-init : goal.loop-k-init

@@ -1,5 +1,4 @@
-use Rattle.std.proofs.Common.{◌≡◌, ◌-◌, ◌≤◌, length, refl, ◌∙◌, add-one, arith, to_z-of_z, w16, to_z, of_z, rules}
-use Rattle.sync_replay.proofs.Laws.{pushes_more, pushes-none, st_eq}
+use Rattle.std.proofs.Common.{◌≡◌, ◌-◌, ◌≤◌}
 use Rattle.sync_replay.specs.Desk.{pushes_of, st}
 use Rattle.sync_replay.proofs.desk.pushes.Given as goal
 

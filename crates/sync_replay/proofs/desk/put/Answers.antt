@@ -1,7 +1,7 @@
 -- `sync_replay::desk::put` meets its contract. Assumes nothing.
 use Rattle.laws.specs.Choice.{if_no, if_yes}
 use Rattle.sync_replay.specs.Desk.{put_of}
-use Rattle.std.proofs.Common.{sym, rules, le-ltb, lt-ltb}
+use Rattle.std.proofs.Common.{sym, le-ltb, lt-ltb}
 use Rattle.sync_replay.proofs.desk.put.Goals as goal
 
 pub returns-then-n-lt192 : goal.returns-then-n-lt192

@@ -1,6 +1,5 @@
 -- `sync_replay::desk::restarted` meets its contract. Assumes nothing.
 use Rattle.sync_replay.specs.Desk.{restarted_of}
-use Rattle.std.proofs.Common.{rules}
 use Rattle.sync_replay.proofs.desk.restarted.Goals as goal
 
 pub returns : goal.returns

@@ -1,6 +1,5 @@
 -- `sync_replay::desk::started` meets its contract. Assumes nothing.
 use Rattle.sync_replay.specs.Desk.{started_of}
-use Rattle.std.proofs.Common.{rules}
 use Rattle.sync_replay.proofs.desk.started.Goals as goal
 
 pub returns : goal.returns

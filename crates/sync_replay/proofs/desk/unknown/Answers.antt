@@ -1,6 +1,5 @@
 -- `sync_replay::desk::unknown` meets its contract. Assumes nothing.
 use Rattle.sync_replay.specs.Desk.{unknown_of}
-use Rattle.std.proofs.Common.{rules}
 use Rattle.sync_replay.proofs.desk.unknown.Goals as goal
 
 pub returns : goal.returns

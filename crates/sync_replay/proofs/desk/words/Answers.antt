@@ -1,6 +1,5 @@
 -- `sync_replay::desk::words` meets its contract. Assumes nothing.
 use Rattle.sync_replay.specs.Desk.{words_of}
-use Rattle.std.proofs.Common.{rules}
 use Rattle.sync_replay.proofs.desk.words.Goals as goal
 
 pub returns : goal.returns

@@ -1,6 +1,6 @@
 -- `sync_replay::given::corr_at` meets its contract. Assumes nothing.
 use Rattle.slot_wire.specs.Slots.{corr_of}
-use Rattle.std.proofs.Common.{to_z-of_z, rules}
+use Rattle.std.proofs.Common.{to_z-of_z}
 use Rattle.sync_replay.proofs.given.corr_at.Goals as goal
 
 pub returns : goal.returns

@@ -1,6 +1,6 @@
 -- `sync_replay::given::course_at` meets its contract. Assumes nothing.
 use Rattle.sync_replay.specs.Given.{course_of}
-use Rattle.std.proofs.Common.{to_z-of_z, rules}
+use Rattle.std.proofs.Common.{to_z-of_z}
 use Rattle.sync_replay.proofs.given.course_at.Goals as goal
 
 pub returns : goal.returns

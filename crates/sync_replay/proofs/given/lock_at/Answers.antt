@@ -1,7 +1,6 @@
 -- `sync_replay::given::lock_at` meets its contract. Assumes nothing.
 use Rattle.laws.specs.Choice.{cases}
 use Rattle.sync_replay.specs.Given.{lock_of}
-use Rattle.std.proofs.Common.{rules}
 use Rattle.sync_replay.proofs.given.lock_at.Goals as goal
 
 pub returns-then-p-eq0 : goal.returns-then-p-eq0

@@ -1,7 +1,7 @@
 -- `sync_replay::given::record_at` meets its contract. Assumes nothing.
 use Rattle.laws.specs.Choice.{if_no, if_yes}
 use Rattle.sync_replay.specs.Given.{record_of}
-use Rattle.std.proofs.Common.{sym, rules, eq-eqb, ne_eqb}
+use Rattle.std.proofs.Common.{sym, eq-eqb, ne_eqb}
 use Rattle.sync_replay.proofs.given.record_at.Goals as goal
 
 pub returns-then-p-eq0 : goal.returns-then-p-eq0

@@ -1,6 +1,5 @@
 -- `sync_replay::given::state_at` meets its contract. Assumes nothing.
 use Rattle.sync_replay.specs.Given.{state_of}
-use Rattle.std.proofs.Common.{rules}
 use Rattle.sync_replay.proofs.given.state_at.Goals as goal
 
 pub returns : goal.returns

@@ -1,6 +1,5 @@
 -- `sync_replay::given::wide` meets its contract. Assumes nothing.
 use Rattle.sync_replay.specs.Given.{wide_at}
-use Rattle.std.proofs.Common.{rules}
 use Rattle.sync_replay.proofs.given.wide.Goals as goal
 
 pub returns : goal.returns

@@ -1,5 +1,5 @@
 -- `sync_replay::given::window_at` meets its contract. Assumes nothing.
-use Rattle.std.proofs.Common.{◌≡◌, ◌-◌, ◌≤◌, [], ◌++◌, drop, refl, ◌∙◌, append-nil, arith, drop_of_length-le, to_z-of_z, rules}
+use Rattle.std.proofs.Common.{◌≡◌, [], drop, refl, ◌∙◌, append-nil, arith, drop_of_length-le, to_z-of_z}
 use Rattle.laws.proofs.Lists.{firsts-step}
 use Rattle.laws.specs.Ranges.{firsts}
 use Rattle.sync_replay.specs.Given.{window_entry, window_of}

@@ -1,7 +1,6 @@
-use Rattle.std.proofs.Common.{◌≡◌, ◌-◌, ◌≤◌, [], ◌++◌, drop, refl, ◌∙◌, append-nil, arith, drop_of_length-le, to_z-of_z, rules}
-use Rattle.laws.proofs.Lists.{firsts-step}
+use Rattle.std.proofs.Common.{◌≡◌, ◌-◌, ◌≤◌, ◌++◌, drop}
 use Rattle.laws.specs.Ranges.{firsts}
-use Rattle.sync_replay.specs.Given.{window_entry, window_of}
+use Rattle.sync_replay.specs.Given.{window_entry}
 use Rattle.sync_replay.proofs.given.window_at.Given as goal
 
 abbrev pub invariant-loop-i : goal.invariant-loop-i

@@ -1,7 +1,6 @@
-use Rattle.std.proofs.Common.{◌≡◌, ◌-◌, ◌≤◌, [], ◌++◌, drop, refl, ◌∙◌, append-nil, arith, drop_of_length-le, to_z-of_z, rules}
-use Rattle.laws.proofs.Lists.{firsts-step}
+use Rattle.std.proofs.Common.{◌≡◌, ◌-◌, ◌≤◌, ◌++◌, drop}
 use Rattle.laws.specs.Ranges.{firsts}
-use Rattle.fields.specs.Fields.{one_at, ones_at}
+use Rattle.fields.specs.Fields.{one_at}
 use Rattle.sync_replay.proofs.given.word.Given as goal
 
 abbrev pub invariant-loop-i : goal.invariant-loop-i

@@ -1,6 +1,5 @@
 -- `sync_replay::mixing::mixed` meets its contract. Assumes nothing.
 use Rattle.digest.proofs.Laws.{halves}
-use Rattle.std.proofs.Common.{rules}
 use Rattle.sync_replay.proofs.mixing.mixed.Goals as goal
 
 pub returns : goal.returns

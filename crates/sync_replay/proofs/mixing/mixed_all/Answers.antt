@@ -1,7 +1,6 @@
 -- `sync_replay::mixing::mixed_all` meets its contract. Assumes nothing.
-use Rattle.std.proofs.Common.{◌≡◌, ◌-◌, ◌≤◌, ◌∙◌, arith, rules}
+use Rattle.std.proofs.Common.{◌≡◌, ◌∙◌, arith}
 use Rattle.sync_replay.proofs.Laws.{mixed_more, mixed-none}
-use Rattle.sync_replay.specs.Mixing.{mixed_to}
 use Rattle.sync_replay.proofs.mixing.mixed_all.Goals as goal
 
 pub loop-k-init : goal.loop-k-init

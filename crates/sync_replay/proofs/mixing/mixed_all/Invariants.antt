@@ -1,5 +1,4 @@
-use Rattle.std.proofs.Common.{◌≡◌, ◌-◌, ◌≤◌, ◌∙◌, arith, rules}
-use Rattle.sync_replay.proofs.Laws.{mixed_more, mixed-none}
+use Rattle.std.proofs.Common.{◌≡◌, ◌-◌, ◌≤◌}
 use Rattle.sync_replay.specs.Mixing.{mixed_to}
 use Rattle.sync_replay.proofs.mixing.mixed_all.Given as goal
 

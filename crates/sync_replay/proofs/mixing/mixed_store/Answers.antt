@@ -1,7 +1,6 @@
 -- `sync_replay::mixing::mixed_store` meets its contract. Assumes nothing.
-use Rattle.std.proofs.Common.{◌≡◌, ◌-◌, ◌≤◌, length, ◌∙◌, arith, rules}
+use Rattle.std.proofs.Common.{◌≡◌, length, ◌∙◌, arith}
 use Rattle.sync_replay.proofs.Laws.{mixed_more, mixed-none}
-use Rattle.sync_replay.specs.Mixing.{mixed_to}
 use Rattle.sync_replay.proofs.mixing.mixed_store.Goals as goal
 
 pub loop-k-init : goal.loop-k-init

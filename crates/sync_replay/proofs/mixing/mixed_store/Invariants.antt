@@ -1,5 +1,4 @@
-use Rattle.std.proofs.Common.{◌≡◌, ◌-◌, ◌≤◌, length, ◌∙◌, arith, rules}
-use Rattle.sync_replay.proofs.Laws.{mixed_more, mixed-none}
+use Rattle.std.proofs.Common.{◌≡◌, ◌-◌, ◌≤◌, length}
 use Rattle.sync_replay.specs.Mixing.{mixed_to}
 use Rattle.sync_replay.proofs.mixing.mixed_store.Given as goal
 

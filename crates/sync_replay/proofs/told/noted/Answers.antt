@@ -1,6 +1,5 @@
 -- `sync_replay::told::noted` meets its contract. Assumes nothing.
 use Rattle.sync_replay.specs.Told.{noted_of}
-use Rattle.std.proofs.Common.{rules}
 use Rattle.sync_replay.proofs.told.noted.Goals as goal
 
 pub returns : goal.returns

@@ -1,5 +1,5 @@
 -- `sync_replay::told::packed` meets its contract. Assumes nothing.
-use Rattle.std.proofs.Common.{◌≡◌, ◌-◌, ◌/◌, ◌%◌, ◌≤◌, [], ◌++◌, get_or, drop, refl, ◌∙◌, append-nil, arith, drop_of_length-le, rules}
+use Rattle.std.proofs.Common.{◌≡◌, ◌/◌, ◌%◌, [], get_or, drop, refl, ◌∙◌, append-nil, arith, drop_of_length-le}
 use Rattle.laws.proofs.Lists.{firsts-step}
 use Rattle.laws.specs.Ranges.{firsts}
 use Rattle.sync_replay.proofs.Laws.{byte_is}

@@ -1,8 +1,5 @@
-use Rattle.std.proofs.Common.{◌≡◌, ◌-◌, ◌/◌, ◌%◌, ◌≤◌, [], ◌++◌, get_or, drop, refl, ◌∙◌, append-nil, arith, drop_of_length-le, rules}
-use Rattle.laws.proofs.Lists.{firsts-step}
+use Rattle.std.proofs.Common.{◌≡◌, ◌-◌, ◌≤◌, ◌++◌, drop}
 use Rattle.laws.specs.Ranges.{firsts}
-use Rattle.sync_replay.proofs.Laws.{byte_is}
-use Rattle.sync_replay.specs.Told.{packed_of}
 use Rattle.wire.specs.Wire.{byte_at}
 use Rattle.sync_replay.proofs.told.packed.Given as goal
 

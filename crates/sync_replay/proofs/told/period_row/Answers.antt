@@ -1,6 +1,5 @@
 -- `sync_replay::told::period_row` meets its contract. Assumes nothing.
 use Rattle.sync_replay.specs.Told.{period_row}
-use Rattle.std.proofs.Common.{rules}
 use Rattle.sync_replay.proofs.told.period_row.Goals as goal
 
 pub returns : goal.returns

@@ -1,7 +1,6 @@
 -- `sync_replay::told::placed` meets its contract. Assumes nothing.
-use Rattle.std.proofs.Common.{◌≡◌, ◌+◌, ◌-◌, ◌≤◌, length, drop, add-zero, arith, rules}
+use Rattle.std.proofs.Common.{◌≡◌, length, add-zero, arith}
 use Rattle.sync_replay.proofs.Laws.{placed-all, placed_more, row_long}
-use lib.Seq.{sets}
 use Rattle.sync_replay.proofs.told.placed.Goals as goal
 
 pub loop-i-init : goal.loop-i-init

@@ -1,5 +1,4 @@
-use Rattle.std.proofs.Common.{◌≡◌, ◌+◌, ◌-◌, ◌≤◌, length, drop, add-zero, arith, rules}
-use Rattle.sync_replay.proofs.Laws.{placed-all, placed_more, row_long}
+use Rattle.std.proofs.Common.{◌≡◌, ◌+◌, ◌-◌, ◌≤◌, drop}
 use lib.Seq.{sets}
 use Rattle.sync_replay.proofs.told.placed.Given as goal
 

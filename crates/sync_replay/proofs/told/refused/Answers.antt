@@ -1,6 +1,6 @@
 -- `sync_replay::told::refused` meets its contract. Assumes nothing.
 use Rattle.sync_replay.specs.Told.{refused_of}
-use Rattle.std.proofs.Common.{refl, rules}
+use Rattle.std.proofs.Common.{refl}
 use Rattle.sync_replay.proofs.told.refused.Goals as goal
 
 pub returns : goal.returns

@@ -1,6 +1,5 @@
 -- `sync_replay::told::row` meets its contract. Assumes nothing.
 use Rattle.sync_replay.specs.Told.{row_of}
-use Rattle.std.proofs.Common.{rules}
 use Rattle.sync_replay.proofs.told.row.Goals as goal
 
 pub returns-in-Nothing : goal.returns-in-Nothing
