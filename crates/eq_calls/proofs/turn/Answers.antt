@@ -1,6 +1,7 @@
 -- `eq_calls::turn` meets its contract. Assumes nothing.
 use native.Mathlib.Omega.{arith}
 use Rattle.eq_calls.specs.Turns.{turn_of}
+use borrow.Author.Rules.{rules}
 use Rattle.eq_calls.proofs.turn.Goals as goal
 
 pub other-requires : goal.other-requires
@@ -24,7 +25,7 @@ returns-in-3 c = rw (c.in-3.is, c.push.ensures)
 
 pub returns-in-4 : goal.returns-in-4
 unfolding turn_of
-returns-in-4 c = rw (c.in-4.is, c.output.ensures)
+returns-in-4 c = rw c.in-4.is (search rules)
 
 pub returns-in-5 : goal.returns-in-5
 unfolding turn_of
