@@ -1,5 +1,6 @@
 -- `lines::soft` meets its contract. Assumes nothing.
 use mathlib.Core.Path.{refl, sym, ◌∙◌}
+use native.Mathlib.Omega.{arith}
 use Prim.Native.Nat.{◌+◌}
 use borrow.Author.Tests.{leb-true}
 use lib.ListN.{length}
@@ -10,7 +11,7 @@ use Rattle.lines.proofs.soft.Goals as goal
 pub written-requires : goal.written-requires
 written-requires c =
     let a = c.args in
-    (leb-true (a.place + 256) (length a.out.now) (sym c.room.ensures ∙ c.if-room.true), c.if-values-gt5.false)
+    (leb-true (a.place + 256) (length a.out.now) (sym c.room.ensures ∙ c.if-room.true), omega arith)
 
 pub returns-then-values-gt5 : goal.returns-then-values-gt5
 returns-then-values-gt5 c =
