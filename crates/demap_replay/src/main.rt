@@ -1,7 +1,7 @@
 // Replays calls of `Learn` and `InForce`. Standard input: calls of 192 bytes; standard output: an answer of 192 bytes for each. Both are 24
 // numbers of 8 bytes, least byte first; compare/README.md lists the calls and what their numbers are. The program keeps one state of each, and
 // the slices of learned and of nominal points, each with one number more than a call takes, so that too many can be lent.
-// Input that ends within a call is told on standard error: a Rattle program has no exit status to tell it by.
+// Input that ends within a call is told on standard error, and the status stays 0.
 #![tactic(auto)]
 
 mod call;

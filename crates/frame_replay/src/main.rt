@@ -1,7 +1,7 @@
 // Replays calls of the alignment. Standard input: calls of 192 bytes; standard output: an answer of 192 bytes for each. Both are 24 numbers of 8
 // bytes, least byte first; compare/README.md lists the calls and what their numbers are. The program keeps one alignment, both words, and the
 // sums that a solving is asked of.
-// Input that ends within a call is told on standard error: a Rattle program has no exit status to tell it by.
+// Input that ends within a call is told on standard error, and the status stays 0.
 #![tactic(auto)]
 
 mod call;

@@ -1,7 +1,7 @@
 // Replays calls of fx through the C functions of c_api. Standard input: the carrier table, 1,024 i16, then calls of 24 bytes (function,
 // a, b). Standard output: an answer of 24 bytes (refusal, x, y) for each call. All numbers are least byte first. A function that there
 // is not is refused with 255, a number that document 01 gives no meaning.
-// Input that ends within the table or a call is told on standard error: a Rattle program has no exit status to tell it by.
+// Input that ends within the table or a call is told on standard error, and the status stays 0.
 #![tactic(auto)]
 
 mod call;

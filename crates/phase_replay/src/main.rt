@@ -1,7 +1,7 @@
 // Replays calls of carrier and phase. Standard input: calls of 192 bytes; standard output: an answer of 192 bytes for each. Both are 24 numbers
 // of 8 bytes, least byte first; compare/README.md lists the calls and what their numbers are. A state goes in with each call and comes back; the
 // program keeps the carrier table and the slot store, each with one entry more than a call takes, so that too many can be lent.
-// Input that ends within a call is told on standard error: a Rattle program has no exit status to tell it by.
+// Input that ends within a call is told on standard error, and the status stays 0.
 #![tactic(auto)]
 
 mod call;

@@ -2,7 +2,7 @@
 // bytes, least byte first; compare/README.md lists the calls and what their numbers are. The program keeps one receiver, both words, the events of
 // the last play, sums, the carrier table and the stores, each with a few entries more than a call takes, so that too many can be lent; and bytes of
 // symbols, the input, which many calls fill and one feed takes, since a call has room for 72 symbols only.
-// Standard input that ends within a call is told on standard error: a Rattle program has no exit status to tell it by.
+// Standard input that ends within a call is told on standard error, and the status stays 0.
 #![tactic(auto)]
 
 mod call;

@@ -11,7 +11,7 @@
 //   7 fold: all accumulators go into the digest
 //   8 set: accumulator n to v
 // An answer: digest, refusal, F and S correlation (re, im), accumulator, three events of eleven numbers.
-// Input that ends within a call is told on standard error: a Rattle program has no exit status to tell it by.
+// Input that ends within a call is told on standard error, and the status stays 0.
 #![tactic(auto)]
 
 mod desk;
