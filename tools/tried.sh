@@ -13,7 +13,7 @@ fi
 
 copy=$(mktemp -d)
 trap 'rm -rf "$copy"' EXIT
-cp -R crates crates.txt "$copy"
+tar -c --exclude=out crates crates.txt | tar -x -C "$copy"
 rm -rf "$copy"/crates/*/must-fail
 for name; do
     ls crates/"$name"/tried/*.edit >/dev/null || exit 2
