@@ -1,6 +1,6 @@
 // Standard input and output of the program, on descriptors that may move a part of a buffer, be not ready, or fail. A call that a signal cut short is made
 // again at once. One that was not ready, on a descriptor that does not wait, is made again after a pause, for as long as it takes. Any other failure is told
-// by one line on standard error, as a program has no exit status here.
+// by one line on standard error; the program ends with status 0 whatever it met.
 // A proved loop has to end, and nothing says that the input does or that a descriptor gets ready: the turns are counted down from a number that no run uses up.
 ghost use Rattle.std.specs.Prelude.{◌≡◌, true, ◌≤◌, length, take};
 
