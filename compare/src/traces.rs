@@ -137,8 +137,8 @@ fn head_text(h: &Head) -> String {
         Word::NotFsync => "NotFsync",
     };
     let slot = match (h.number, h.frame) {
-        (Some(n), Some(f)) => format!("(In {n} {f})"),
-        _ => "Unknown".into(),
+        (Some(n), Some(f)) => format!("(slot_in {n} {f})"),
+        _ => "None".into(),
     };
     let [re, im] = h.corr.map(|part| argument(part.into()));
     format!("(head {} {word} {re} {im} {} {} {slot} {})", h.at, h.theta, argument(h.amp), h.nco_phase)

@@ -18,9 +18,8 @@ pub fn turn_back(p: CosSin, i: i64, q: i64, s: u32) -> Parts
     requires { (unsigned_abs p.cos ≤ 32768) × (unsigned_abs p.sin ≤ 32768) × (unsigned_abs i ≤ 32768) × (unsigned_abs q ≤ 32768) × (s ≤ 60) }
     ensures { result ≡ turned_back p i q s }
 {
-    let c = p.cos;
-    let d = p.sin;
-    let re = fx::ranged::round_shift(i * c + q * d, s);
-    let im = fx::ranged::round_shift(q * c - i * d, s);
-    Parts { re: re, im: im }
+    Parts {
+        re: fx::ranged::round_shift(i * p.cos + q * p.sin, s),
+        im: fx::ranged::round_shift(q * p.cos - i * p.sin, s),
+    }
 }

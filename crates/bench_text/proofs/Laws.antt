@@ -1,18 +1,19 @@
 -- Laws of the lines' lengths. Assumes nothing.
-use Rattle.std.proofs.Common.{◌≡◌, ℕ, zero, suc, ◌+◌, ◌*◌, ◌/◌, ◌%◌, ◌≤◌, true, eqb, ltb, List, [], ◌∷◌, ◌++◌, length, get_or, ℤ, pos, negsuc, ap, ◌∙◌, subst, ap₂, arith, length-append, eq-eqb, le-leb}
+use Rattle.std.specs.Prelude.{is_some}
+use Rattle.sync_heads.specs.declared.SlotNumber.{SlotNumber}
+use Rattle.std.proofs.Common.{◌≡◌, ℕ, zero, suc, ◌+◌, ◌*◌, ◌/◌, ◌%◌, ◌≤◌, true, eqb, ltb, List, [], ◌∷◌, ◌++◌, length, get_or, ℤ, pos, negsuc, ap, ◌∙◌, subst, ap₂, arith, length-append, eq-eqb, le-leb, Option, None, Some, sym, refl}
+use Rattle.std.specs.Prelude.{Result, Ok, Err, ⊤, IsOk}
 use Rattle.laws.proofs.Tests.{if_both}
 use Rattle.laws.specs.Choice.{if_yes}
 use Rattle.sync_heads.specs.declared.Head.{Head}
-use Rattle.sync_heads.specs.declared.Slot.{Slot}
-use Rattle.sync_heads.specs.declared.Slot.TheVariants.{Unknown, In}
 use Rattle.sync_step.specs.declared.SyncStats.{SyncStats}
 use Rattle.sync_step.specs.declared.Event.{Event}
 use Rattle.sync_step.specs.declared.Event.TheVariants.{Nothing, Head as HeadEvent, Period, Lost}
 use Rattle.lines.specs.Decimal.{digit, decimal_in, decimal_of, signed_of}
 use Rattle.lines.specs.Place.{written, Wrote, room_refusal, printed_at, printed_into}
-use Rattle.lines.specs.declared.Printed.{Printed}
+use Rattle.refusal.specs.declared.Refusal.{Refusal}
 use Rattle.lines.specs.Lines.{number_then, period_line, letter_of, slot_text, head_line, lost_line, event_line, value_text, values_to, values_text, soft_line, soft_refusal, end_line, refused_line, bit}
-use Rattle.lines.proofs.Laws.{length_written, room_yes, soft_yes, then as next-to}
+use Rattle.lines.proofs.Laws.{length_written, ok_same, room_yes, soft_yes, then as next-to}
 
 -- ---- no line has more than 256 bytes
 cat : (a b : List ℕ) {m n : ℕ} → length a ≤ m → length b ≤ n → length (a ++ b) ≤ m + n
@@ -39,13 +40,13 @@ period_short p =
     let a : List ℕ = number_then p.peak 32 in
     let b : List ℕ = number_then p.peak_pos 32 in
     let d : List ℕ = number_then p.sum 32 in
-    let e : List ℕ = number_then (bit p.locked) 10 in
-    cat (w ++ a ++ b ++ d) e (cat (w ++ a ++ b) d (cat (w ++ a) b (cat w a {m = 7} (omega arith) (number_short p.peak 32)) (number_short p.peak_pos 32)) (number_short p.sum 32)) (number_short (bit p.locked) 10)
+    let e : List ℕ = number_then (bit (is_some p.offset)) 10 in
+    cat (w ++ a ++ b ++ d) e (cat (w ++ a ++ b) d (cat (w ++ a) b (cat w a {m = 7} (omega arith) (number_short p.peak 32)) (number_short p.peak_pos 32)) (number_short p.sum 32)) (number_short (bit (is_some p.offset)) 10)
 
-slot_short : (s : Slot) → length (slot_text s) ≤ 21 + 21
+slot_short : (s : Option SlotNumber) → length (slot_text s) ≤ 21 + 21
 unfolding slot_text
-slot_short Unknown = omega arith
-slot_short (In number frame) = cat (number_then number 32) (number_then frame 10) (number_short number 32) (number_short frame 10)
+slot_short None = omega arith
+slot_short (Some s) = cat (number_then s.number 32) (number_then s.frame 10) (number_short s.number 32) (number_short s.frame 10)
 
 head_short : (h : Head) → length (head_line h) ≤ 5 + 21 + 2 + 42
 unfolding head_line
@@ -107,37 +108,51 @@ soft_short at j vs l =
     omega (arith, h, l)
 
 -- ---- a line where there is room
-printed_wrote : (o : List ℕ) (at : ℕ) (t l : List ℕ) (n : ℕ) (r : Printed) → n ≡ 0 → length t ≤ 256 → at + 256 ≤ length o → (r ≡ printed_at n t at) × (l ≡ printed_into n t at o) → Wrote o at t l r.place
-unfolding printed_at printed_into
-printed_wrote o at t l n r z s h e =
-    let y : eqb n 0 ≡ true = eq-eqb n 0 z in
-    let w : l ≡ written o at t = e.1 ∙ if_yes _ _ _ y in
+-- what an entry of crate lines answers where its test finds room and no other fault
+answer_wrote : (o : List ℕ) (at : ℕ) (t l : List ℕ) (n : Result ⊤ Refusal) (r : Result ℕ Refusal) (to : ℕ) → n ≡ Ok Prim.tt → length t ≤ 256 → at + 256 ≤ length o →
+    (r ≡ printed_at n t at) × (l ≡ printed_into n t at o) → r ≡ Ok to → Wrote o at t l to
+answer_wrote o at t l n r to z s h e d =
+    let p = rw z at e in
+    let w : l ≡ written o at t = p.1 in
     let f : at + length t ≤ length o = omega (arith, s, h) in
-    record { fits = f; is = w; behind = ap (λ (x : Printed). x.place) e.0 ∙ if_yes _ _ _ y; long = ap length w ∙ length_written o at t f }
+    record { fits = f; is = w; behind = ok_same (sym d ∙ p.0); long = ap length w ∙ length_written o at t f }
+
+-- it answers a place
+pub answer_ok : (o : List ℕ) (at : ℕ) (t : List ℕ) (n : Result ⊤ Refusal) (r : Result ℕ Refusal) → n ≡ Ok Prim.tt → r ≡ printed_at n t at → IsOk r
+answer_ok o at t n r z e = let p = rw z at e in rw p refl
 
 -- what an entry of crate lines answers, which has no other refusal than 1
-abbrev pub Answers : List ℕ → ℕ → List ℕ → List ℕ → Printed → Type 0
+abbrev pub Answers : List ℕ → ℕ → List ℕ → List ℕ → Result ℕ Refusal → Type 0
 Answers o at t l r = (r ≡ printed_at (room_refusal at (length o)) t at) × (l ≡ printed_into (room_refusal at (length o)) t at o)
 
-pub line_wrote : (o : List ℕ) (at : ℕ) (t l : List ℕ) (r : Printed) → length t ≤ 256 → at + 256 ≤ length o → Answers o at t l r → Wrote o at t l r.place
-line_wrote o at t l r s h e = printed_wrote o at t l (room_refusal at (length o)) r (room_yes at (length o) (le-leb (at + 256) (length o) h)) s h e
+pub line_ok : (o : List ℕ) (at : ℕ) (t l : List ℕ) (r : Result ℕ Refusal) → at + 256 ≤ length o → Answers o at t l r → IsOk r
+line_ok o at t l r h e = answer_ok o at t (room_refusal at (length o)) r (room_yes at (length o) h) e.0
 
--- the three events
-pub three-wrote :
-    (o l m n : List ℕ) (at : ℕ) (a b r : Printed) (x y z : List ℕ) → length x ≤ 256 → length y ≤ 256 → length z ≤ 256 → at + 768 ≤ length o →
-    Answers o at x l a → Answers l a.place y m b → Answers m b.place z n r → Wrote o at (x ++ y ++ z) n r.place
-three-wrote o l m n at a b r x y z sx sy sz h ex ey ez =
-    let u : Wrote o at x l a.place = line_wrote o at x l a sx (omega (arith, h)) ex in
-    let v : Wrote l a.place y m b.place = line_wrote l a.place y m b sy (omega (arith, h, sx, u.behind, u.long)) ey in
-    let w : Wrote m b.place z n r.place = line_wrote m b.place z n r sz (omega (arith, h, sx, sy, u.behind, u.long, v.behind, v.long)) ez in
-    next-to (next-to u v) w
+pub line_wrote : (o : List ℕ) (at : ℕ) (t l : List ℕ) (r : Result ℕ Refusal) (to : ℕ) → length t ≤ 256 → at + 256 ≤ length o → Answers o at t l r → r ≡ Ok to → Wrote o at t l to
+line_wrote o at t l r to s h e d = answer_wrote o at t l (room_refusal at (length o)) r to (room_yes at (length o) h) s h e d
+
+-- the first two of three lines, and room for the third
+pub first_room : (o l : List ℕ) (at a : ℕ) (x : List ℕ) (r : Result ℕ Refusal) → length x ≤ 256 → at + 768 ≤ length o →
+    Answers o at x l r → r ≡ Ok a → (Wrote o at x l a) × (a + 512 ≤ length l)
+first_room o l at a x r s h e d =
+    let u = line_wrote o at x l r a s (omega (arith, h)) e d in (u, omega (arith, h, s, u.behind, u.long))
+
+pub first_two : (o l m : List ℕ) (at a b : ℕ) (x y : List ℕ) (r q : Result ℕ Refusal) → length x ≤ 256 → length y ≤ 256 → at + 768 ≤ length o →
+    Answers o at x l r → r ≡ Ok a → Answers l a y m q → q ≡ Ok b → (Wrote o at (x ++ y) m b) × (b + 256 ≤ length m)
+first_two o l m at a b x y r q s t h e d f g =
+    let u = first_room o l at a x r s h e d in
+    let v = line_wrote l a y m q b t (omega (arith, u.1)) f g in
+    (next-to u.0 v, omega (arith, u.1, t, v.behind, v.long))
 
 -- a main symbol's line; vs are the values us, n is the position m
+pub soft_ok : (o : List ℕ) (at n j : ℕ) (vs : List ℤ) (r : Result ℕ Refusal) → length vs ≤ 5 → at + 256 ≤ length o →
+    r ≡ printed_at (soft_refusal (length vs) at (length o)) (soft_line n j vs) at → IsOk r
+soft_ok o at n j vs r s h e = answer_ok o at (soft_line n j vs) (soft_refusal (length vs) at (length o)) r (soft_yes (length vs) at (length o) h s) e
+
 pub soft-wrote :
-    (o : List ℕ) (at n m j : ℕ) (vs us : List ℤ) (l : List ℕ) (r : Printed) → n ≡ m → vs ≡ us → length vs ≤ 5 → at + 256 ≤ length o →
-    (r ≡ printed_at (soft_refusal (length vs) at (length o)) (soft_line n j vs) at) × (l ≡ printed_into (soft_refusal (length vs) at (length o)) (soft_line n j vs) at o) →
-    Wrote o at (soft_line m j us) l r.place
-soft-wrote o at n m j vs us l r d e s h x =
-    let y = soft_yes (length vs) at (length o) (le-leb (at + 256) (length o) h) s in
-    let w = printed_wrote o at (soft_line n j vs) l (soft_refusal (length vs) at (length o)) r y (soft_short n j vs s) h x in
-    subst (λ (t : List ℕ). Wrote o at t l r.place) (ap₂ (λ (p : ℕ) (q : List ℤ). soft_line p j q) d e) w
+    (o : List ℕ) (at n m j : ℕ) (vs us : List ℤ) (l : List ℕ) (r : Result ℕ Refusal) (to : ℕ) → n ≡ m → vs ≡ us → length vs ≤ 5 → at + 256 ≤ length o →
+    (r ≡ printed_at (soft_refusal (length vs) at (length o)) (soft_line n j vs) at) × (l ≡ printed_into (soft_refusal (length vs) at (length o)) (soft_line n j vs) at o) → r ≡ Ok to →
+    Wrote o at (soft_line m j us) l to
+soft-wrote o at n m j vs us l r to d e s h x y =
+    let w = answer_wrote o at (soft_line n j vs) l (soft_refusal (length vs) at (length o)) r to (soft_yes (length vs) at (length o) h s) (soft_short n j vs s) h x y in
+    subst (λ (t : List ℕ). Wrote o at t l to) (ap₂ (λ (p : ℕ) (q : List ℤ). soft_line p j q) d e) w

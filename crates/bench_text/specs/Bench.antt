@@ -1,10 +1,11 @@
 -- What an answer prints: document 01, "Capture": "Events come in order, then soft lines"; "`soft AT J` (position and slot index of a main symbol) and
 -- the values; last `end SYMBOLS` or `refused NUMBER`".
-use Rattle.std.specs.Prelude.{ℕ, zero, suc, ◌+◌, ◌%◌, ◌^◌, Bool, true, false, ◌&&◌, List, [], ◌++◌, take, drop, ℤ, ◌==◌, nat_le}
+use Rattle.std.specs.Prelude.{ℕ, zero, suc, ◌+◌, ◌%◌, ◌^◌, Bool, true, false, ◌&&◌, List, [], ◌++◌, take, drop, ℤ, nat_le, Result, Ok, Err}
 use Rattle.laws.specs.Choice.{when◌then◌else◌}
 use Rattle.sync_step.specs.declared.Events.{Events}
+use Rattle.refusal.specs.declared.Refusal.{Refusal}
 use Rattle.frame_map.specs.declared.SlotPart.{SlotPart}
-use Rattle.frame_map.specs.declared.SlotPart.TheVariants.{Sync, Pilot, Main, Tmcc, Refused}
+use Rattle.frame_map.specs.declared.SlotPart.TheVariants.{Sync, Pilot, Main, Tmcc}
 use Rattle.frame_map.specs.Map.{part_of}
 use Rattle.receiver_slot.specs.declared.AlignedRun.{AlignedRun}
 use Rattle.receiver_slot.specs.declared.Runs.{Runs}
@@ -15,12 +16,12 @@ unfoldable pub events_text : Events → List ℕ
 events_text es = event_line es.first ++ event_line es.second ++ event_line es.third
 
 -- "a main symbol"
-unfoldable pub main_part : SlotPart → Bool
-main_part (Sync k) = false
-main_part (Pilot k) = false
-main_part (Main k) = true
-main_part (Tmcc k) = false
-main_part (Refused n) = false
+unfoldable pub main_part : Result SlotPart Refusal → Bool
+main_part (Ok (Sync k)) = false
+main_part (Ok (Pilot k)) = false
+main_part (Ok (Main k)) = true
+main_part (Ok (Tmcc k)) = false
+main_part (Err n) = false
 
 unfoldable pub is_main : ℕ → Bool
 is_main j = main_part (part_of j)
@@ -54,5 +55,6 @@ lines_of es rs soft =
     events_text es ++ run_text t t.count 0 soft ++ run_text b b.count 0 (run_rest t t.count 0 soft)
 
 -- "last `end SYMBOLS` or `refused NUMBER`"
-unfoldable pub last_text : ℕ → ℕ → List ℕ
-last_text refusal symbols = when refusal == 0 then end_line symbols else refused_line refusal
+abbrev pub last_text : Result ℕ ℕ → List ℕ
+last_text (Ok symbols) = end_line symbols
+last_text (Err n) = refused_line n

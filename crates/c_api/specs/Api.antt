@@ -1,21 +1,12 @@
 -- How the answers of fx cross to C: docs/DECISIONS.md, F.3. Refusal 0 is an accepted call; after any other the values are 0.
-use Rattle.std.specs.Prelude.{ℕ, ℤ, pos}
+use Rattle.fx.specs.declared.Polar.{Polar}
+use Rattle.fx.specs.declared.CosSin.{CosSin}
+use Rattle.refusal.specs.declared.Refusal.{Refusal}
+use Rattle.refusal.specs.Refusals.{number_of}
+use Rattle.fx.specs.declared.Parts.{Parts}
+use Rattle.std.specs.Prelude.{ℤ, pos, Result, Ok, Err}
 use Rattle.c_api.specs.declared.Number.{Number}
 use Rattle.c_api.specs.declared.Numbers.{Numbers}
-use Rattle.fx.specs.declared.Whole.{Whole}
-use Rattle.fx.specs.declared.Whole.TheVariants.{Value, Refused}
-use Rattle.fx.specs.declared.Whole32.{Whole32}
-use Rattle.fx.specs.declared.Whole32.TheVariants.{Value as Value32, Refused as Refused32}
-use Rattle.fx.specs.declared.Whole16.{Whole16}
-use Rattle.fx.specs.declared.Whole16.TheVariants.{Value as Value16, Refused as Refused16}
-use Rattle.fx.specs.declared.Whole8.{Whole8}
-use Rattle.fx.specs.declared.Whole8.TheVariants.{Value as Value8, Refused as Refused8}
-use Rattle.fx.specs.declared.Turned.{Turned}
-use Rattle.fx.specs.declared.Turned.TheVariants.{To, Refused as TurnedRefused}
-use Rattle.fx.specs.declared.Scaled.{Scaled}
-use Rattle.fx.specs.declared.Scaled.TheVariants.{By, Refused as ScaledRefused}
-use Rattle.fx.specs.declared.Phasor.{Phasor}
-use Rattle.fx.specs.declared.Phasor.TheVariants.{At, Refused as PhasorRefused}
 
 -- an accepted value, two accepted values
 abbrev pub one : ℤ → Number
@@ -25,40 +16,33 @@ abbrev pub two : ℤ → ℤ → Numbers
 two a b = record { first = a; second = b; refusal = 0 }
 
 -- a refusal, of a value or of two
-abbrev pub none : ℕ → Number
-none n = record { value = pos 0; refusal = n }
+abbrev pub none : Refusal → Number
+none why = record { value = pos 0; refusal = number_of why }
 
-abbrev pub none2 : ℕ → Numbers
-none2 n = record { first = pos 0; second = pos 0; refusal = n }
+abbrev pub none2 : Refusal → Numbers
+none2 why = record { first = pos 0; second = pos 0; refusal = number_of why }
+
+-- an answer that crosses as one number, of a type that has one; as two
+unfoldable pub crossed : {T : Type 0} → (T → ℤ) → Result T Refusal → Number
+crossed value (Ok v) = one (value v)
+crossed value (Err why) = none why
+
+unfoldable pub crossed_two : {T : Type 0} → (T → ℤ) → (T → ℤ) → Result T Refusal → Numbers
+crossed_two first second (Ok v) = two (first v) (second v)
+crossed_two first second (Err why) = none2 why
 
 -- a number of any width crosses as the i64 of its value
-unfoldable pub number : Whole → Number
-number (Value v) = one v
-number (Refused n) = none n
-
-unfoldable pub number32 : Whole32 → Number
-number32 (Value32 v) = one v
-number32 (Refused32 n) = none n
-
-unfoldable pub number16 : Whole16 → Number
-number16 (Value16 v) = one v
-number16 (Refused16 n) = none n
-
-unfoldable pub number8 : Whole8 → Number
-number8 (Value8 v) = one v
-number8 (Refused8 n) = none n
+abbrev pub number : Result ℤ Refusal → Number
+number a = crossed (λ v. v) a
 
 -- angle, size
-unfoldable pub polar_numbers : Turned → Numbers
-polar_numbers (To p) = two (pos p.angle) p.size
-polar_numbers (TurnedRefused n) = none2 n
+abbrev pub polar_numbers : Result Polar Refusal → Numbers
+polar_numbers a = crossed_two (λ p. pos p.angle) (λ p. p.size) a
 
 -- the two parts
-unfoldable pub part_numbers : Scaled → Numbers
-part_numbers (By p) = two p.re p.im
-part_numbers (ScaledRefused n) = none2 n
+abbrev pub part_numbers : Result Parts Refusal → Numbers
+part_numbers a = crossed_two (λ p. p.re) (λ p. p.im) a
 
 -- cosine, sine
-unfoldable pub phasor_numbers : Phasor → Numbers
-phasor_numbers (At p) = two p.cos p.sin
-phasor_numbers (PhasorRefused n) = none2 n
+abbrev pub phasor_numbers : Result CosSin Refusal → Numbers
+phasor_numbers a = crossed_two (λ p. p.cos) (λ p. p.sin) a

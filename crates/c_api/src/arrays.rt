@@ -4,10 +4,10 @@ ghost use Rattle.sync_corr.specs.Correlate.{correlate_answer};
 ghost use Rattle.frame_map.specs.Reference.{reference_answer};
 ghost use Rattle.c_api.specs.Arrays.{correlated, word_numbered, referred, unknowns};
 
-use crate::Numbers;
-use frame_map::Referred;
+use crate::{Numbers, Two};
+use angles::Symbol;
 use solve_step::System;
-use sync_corr::Correlated;
+use sync_corr::Corr;
 use sync_heads::Word;
 
 // 24 symbols, I before Q.
@@ -48,20 +48,31 @@ pub struct Unknowns {
     pub refusal: u8,
 }
 
-fn of_correlated(a: Correlated) -> Numbers
-    ensures { result ≡ correlated a }
-{
-    match a {
-        Correlated::Value(c) => Numbers {
-            first: c.re as i64,
-            second: c.im as i64,
-            refusal: 0,
-        },
-        Correlated::Refused(n) => Numbers {
-            first: 0,
-            second: 0,
-            refusal: n,
-        },
+impl Two for Corr {
+    ghost first = { λ c. c.re };
+
+    ghost second = { λ c. c.im };
+
+    fn first(&self) -> i64 {
+        i64::from(self.re)
+    }
+
+    fn second(&self) -> i64 {
+        i64::from(self.im)
+    }
+}
+
+impl Two for Symbol {
+    ghost first = { λ y. y.i };
+
+    ghost second = { λ y. y.q };
+
+    fn first(&self) -> i64 {
+        i64::from(self.i)
+    }
+
+    fn second(&self) -> i64 {
+        i64::from(self.q)
     }
 }
 
@@ -69,9 +80,7 @@ fn of_correlated(a: Correlated) -> Numbers
 pub fn sv_correlate(window: Window, word: OneWord) -> Numbers
     ensures { result ≡ correlated (correlate_answer window.x word.w) }
 {
-    let x = window.x;
-    let w = word.w;
-    of_correlated(sync_corr::correlate(x, w))
+    crate::of_two(sync_corr::correlate(window.x, word.w))
 }
 
 // 0 the S word, 1 the F word, any other number the F word negated.
@@ -85,31 +94,11 @@ fn word_numbered(n: u8) -> Word
     }
 }
 
-fn of_referred(a: Referred) -> Numbers
-    ensures { result ≡ referred a }
-{
-    match a {
-        Referred::Given(y) => Numbers {
-            first: y.i as i64,
-            second: y.q as i64,
-            refusal: 0,
-        },
-        Referred::Refused(n) => Numbers {
-            first: 0,
-            second: 0,
-            refusal: n,
-        },
-    }
-}
-
 // What sync symbol k is trained against.
 pub fn sv_reference(word: u8, k: usize, words: Words) -> Numbers
     ensures { result ≡ referred (reference_answer (word_numbered word) k words.f words.s) }
 {
-    let f = words.f;
-    let s = words.s;
-    let w = word_numbered(word);
-    of_referred(frame_map::reference(w, k, f, s))
+    crate::of_two(frame_map::reference(word_numbered(word), k, words.f, words.s))
 }
 
 // The equations solved in f64.
@@ -118,10 +107,11 @@ pub fn sv_solve(e: Equations) -> Unknowns
 {
     let a = e.a;
     let b = e.b;
-    let t = solve_step::solve(System { a: a, b: b });
-    let x = t.x;
-    Unknowns {
-        x: x,
-        refusal: t.refusal,
+    match solve_step::solve(System { a, b }) {
+        Ok(x) => Unknowns { x, refusal: 0 },
+        Err(why) => Unknowns {
+            x: [0.0; 22],
+            refusal: why.number(),
+        },
     }
 }

@@ -5,12 +5,11 @@ ghost use Rattle.carrier.specs.Answers.{rotate_answer};
 ghost use Rattle.phase.specs.Answers.{gain_answer};
 ghost use Rattle.demap.specs.Answers.{demap_answer, demap_buffer, scale_answer};
 ghost use Rattle.frame_map.specs.Map.{part_of};
-ghost use Rattle.c_api.specs.Api.{number, two};
-ghost use Rattle.c_api.specs.Stages.{rotation, demapped, placed};
+ghost use Rattle.c_api.specs.Api.{number};
+ghost use Rattle.c_api.specs.Stages.{rotation, kind_of, index_of, placed};
 
-use crate::{Number, Numbers};
-use carrier::{Nco, Trail};
-use demap::Demapped;
+use crate::{Number, Numbers, Two};
+use carrier::Nco;
 use frame_map::SlotPart;
 
 // A rotated symbol and the phase after it; after a refusal the symbol is 0 and the phase as given.
@@ -28,79 +27,64 @@ pub fn sv_rotate(phase: u32, freq: i32, xi: i8, xq: i8, table: &[i16]) -> Rotati
     ensures { result ≡ rotation (rotate_answer (started_nco phase freq) xi xq table.now) }
 {
     let n = Nco {
-        phase: phase,
-        freq: freq,
-        trail: Trail::Empty,
+        phase,
+        freq,
+        trail: None,
     };
-    let a = carrier::rotate(n, xi, xq, table);
-    let m = a.nco;
-    Rotation {
-        phase: m.phase,
-        i: a.i,
-        q: a.q,
-        refusal: a.refusal,
+    match carrier::rotate(n, xi, xq, table) {
+        Ok(a) => Rotation {
+            phase: a.nco.phase,
+            i: a.symbol.i,
+            q: a.symbol.q,
+            refusal: 0,
+        },
+        Err(refused) => Rotation {
+            phase: refused.state.phase,
+            i: 0,
+            q: 0,
+            refusal: refused.why.number(),
+        },
     }
 }
 
 pub fn sv_gain_of(amp: i64) -> Number
     ensures { result ≡ number (gain_answer amp) }
 {
-    crate::of_whole(phase::gain_of(amp))
+    crate::of_one(phase::gain_of(amp))
 }
 
 pub fn sv_scale_of(n0: i64) -> Number
     ensures { result ≡ number (scale_answer n0) }
 {
-    crate::of_whole(demap::scale_of(n0))
-}
-
-// The least metric, or a refusal.
-fn of_demapped(a: Demapped) -> Number
-    ensures { result ≡ demapped a }
-{
-    match a {
-        Demapped::Least(m) => Number {
-            value: m,
-            refusal: 0,
-        },
-        Demapped::Refused(n) => Number {
-            value: 0,
-            refusal: n,
-        },
-    }
+    crate::of_one(demap::scale_of(n0))
 }
 
 // The soft bits of a symbol into a buffer's start.
 pub fn sv_demap(yi: i16, yq: i16, points: &[i16], bits: usize, k: i64, out: &mut [i8]) -> Number
-    ensures { (result ≡ demapped (demap_answer yi yq points.now bits k out.old)) × (out.new ≡ demap_buffer yi yq points.now bits k out.old) }
+    ensures { (result ≡ number (demap_answer yi yq points.now bits k out.old)) × (out.new ≡ demap_buffer yi yq points.now bits k out.old) }
 {
-    of_demapped(demap::demap(yi, yq, points, bits, k, out))
+    crate::of_one(demap::demap(yi, yq, points, bits, k, out))
 }
 
-// A kind as a number, and the index among its kind.
-fn of_part(p: SlotPart) -> Numbers
-    ensures { result ≡ placed p }
-{
-    match p {
-        SlotPart::Sync(k) => numbered(0, k),
-        SlotPart::Pilot(k) => numbered(1, k),
-        SlotPart::Main(k) => numbered(2, k),
-        SlotPart::Tmcc(k) => numbered(3, k),
-        SlotPart::Refused(n) => Numbers {
-            first: 0,
-            second: 0,
-            refusal: n,
-        },
+// A kind as a number, in the order of the slot, and the index among its kind.
+impl Two for SlotPart {
+    ghost first = { λ p. kind_of p };
+
+    ghost second = { λ p. pos (index_of p) };
+
+    fn first(&self) -> i64 {
+        match self {
+            SlotPart::Sync(_) => 0,
+            SlotPart::Pilot(_) => 1,
+            SlotPart::Main(_) => 2,
+            SlotPart::Tmcc(_) => 3,
+        }
     }
-}
 
-fn numbered(kind: i64, k: u16) -> Numbers
-    ensures { result ≡ two kind (pos k) }
-{
-    Numbers {
-        first: kind,
-        second: k as i64,
-        refusal: 0,
+    fn second(&self) -> i64 {
+        let (SlotPart::Sync(k) | SlotPart::Pilot(k) | SlotPart::Main(k) | SlotPart::Tmcc(k)) =
+            *self;
+        i64::from(k)
     }
 }
 
@@ -108,5 +92,5 @@ fn numbered(kind: i64, k: u16) -> Numbers
 pub fn sv_part(j: usize) -> Numbers
     ensures { result ≡ placed (part_of j) }
 {
-    of_part(frame_map::part(j))
+    crate::of_two(frame_map::part(j))
 }

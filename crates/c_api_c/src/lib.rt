@@ -8,7 +8,7 @@ mod stages;
 ghost use Rattle.std.specs.Prelude.{◌≡◌};
 ghost use Rattle.fx.specs.Fx.{signed_angle};
 ghost use Rattle.fx.specs.Answers.{round_shift_answer, div_round_answer, mag_approx_answer, sat16_answer, sat127_answer, sat32_answer, cordic_answer, cordic_scale_answer, cos_sin_trunc_answer, cos_sin_round_answer};
-ghost use Rattle.c_api.specs.Api.{number, number32, number16, number8, polar_numbers, part_numbers, phasor_numbers};
+ghost use Rattle.c_api.specs.Api.{number, polar_numbers, part_numbers, phasor_numbers};
 
 use c_api::{Number, Numbers};
 
@@ -28,21 +28,21 @@ pub extern "C" fn sv_div_round(a: i64, b: i64) -> Number
 
 #[unsafe(no_mangle)]
 pub extern "C" fn sv_sat16(v: i64) -> Number
-    ensures { result ≡ number16 (sat16_answer v) }
+    ensures { result ≡ number (sat16_answer v) }
 {
     c_api::sv_sat16(v)
 }
 
 #[unsafe(no_mangle)]
 pub extern "C" fn sv_sat127(v: i64) -> Number
-    ensures { result ≡ number8 (sat127_answer v) }
+    ensures { result ≡ number (sat127_answer v) }
 {
     c_api::sv_sat127(v)
 }
 
 #[unsafe(no_mangle)]
 pub extern "C" fn sv_sat32(v: i64) -> Number
-    ensures { result ≡ number32 (sat32_answer v) }
+    ensures { result ≡ number (sat32_answer v) }
 {
     c_api::sv_sat32(v)
 }

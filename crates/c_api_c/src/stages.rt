@@ -6,7 +6,7 @@ ghost use Rattle.phase.specs.Answers.{gain_answer};
 ghost use Rattle.demap.specs.Answers.{demap_answer, demap_buffer, scale_answer};
 ghost use Rattle.frame_map.specs.Map.{part_of};
 ghost use Rattle.c_api.specs.Api.{number};
-ghost use Rattle.c_api.specs.Stages.{rotation, demapped, placed};
+ghost use Rattle.c_api.specs.Stages.{rotation, placed};
 
 use c_api::stages::Rotation;
 use c_api::{Number, Numbers};
@@ -43,7 +43,7 @@ pub extern "C" fn sv_demap(
     k: i64,
     out: &mut [i8],
 ) -> Number
-    ensures { (result ≡ demapped (demap_answer yi yq points.now bits k out.old)) × (out.new ≡ demap_buffer yi yq points.now bits k out.old) }
+    ensures { (result ≡ number (demap_answer yi yq points.now bits k out.old)) × (out.new ≡ demap_buffer yi yq points.now bits k out.old) }
 {
     c_api::stages::sv_demap(yi, yq, points, bits, k, out)
 }

@@ -1,17 +1,22 @@
 -- The first 2,310 bytes tell all that stands before the symbols. Assumes nothing.
 use mathlib.Core.Bool.{false}
 use mathlib.Core.List.{List, ◌++◌}
-use mathlib.Core.Path.{◌≡◌, refl}
+use mathlib.Core.Path.{◌≡◌, refl, ap}
 use Prim.Native.Nat.{ℕ, ◌+◌, ◌-◌, ◌*◌, ◌^◌, ◌≤◌, ◌<◌}
 use native.Mathlib.Omega.{arith}
-use borrow.Author.Tests.{le-leb, le-ltb, eqb-true}
-use lib.Dec.{ltb, eqb}
+use borrow.Author.Tests.{le-leb, le-ltb}
+use lib.Dec.{ltb}
 use lib.ListN.{length, get_or, length-append, get_or-append}
 use Rattle.laws.proofs.Lists.{firsts-ext}
 use Rattle.laws.proofs.Tests.{if_cong}
+use Rattle.std.specs.Prelude.{Result, Ok, Err, ⊤}
+use Rattle.refusal.specs.declared.Refusal.{Refusal}
+use Rattle.capture.specs.declared.Heading.{Heading}
+use Rattle.capture.specs.declared.entries.Kind.{Kind}
+use Rattle.capture.specs.declared.entries.Kind.TheVariants.{Words, Table, Points, Symbols}
 use Rattle.capture.specs.Bytes.{number_at, short_at, byte_at}
-use Rattle.capture.specs.Contents.{length_of, entry_fits, contents_fit}
-use Rattle.capture.specs.Bodies.{word_from, f_word, s_word, words_fit, table_of, bits_of, points_from, points_of, scale_of, points_refusal, bodies_refusal, header_refusal, accepted_heading, header_of}
+use Rattle.capture.specs.Contents.{place_of, length_of, entry_fits, contents_fit}
+use Rattle.capture.specs.Bodies.{word_from, f_word, s_word, words_fit, table_of, bits_of, points_from, points_of, scale_of, points_refusal, bodies_refusal, header_refusal, told, words_of, loaded_of, accepted_heading, header_of}
 use Rattle.capture.proofs.Laws.{Listable, fitting, fits, header_whole}
 
 module _ (b m : List ℕ) (h : 2310 ≤ length b) where
@@ -38,14 +43,28 @@ module _ (b m : List ℕ) (h : 2310 ≤ length b) where
   signed-kept k l = rw (byte-kept k l)
 
   -- contents
-  length-kept : (n : ℕ) → n < 4 → length_of (b ++ m) n ≡ length_of b n
-  unfolding length_of
-  length-kept n l = number-kept (1 + 8 * n + 4) (omega arith)
+  near : (kind : Kind) → place_of kind < 4
+  near Words = omega arith
+  near Table = omega arith
+  near Points = omega arith
+  near Symbols = omega arith
 
-  entry_kept : (n : ℕ) → n < 4 → entry_fits (b ++ m) n ≡ entry_fits b n
+  length-kept : (kind : Kind) → length_of (b ++ m) kind ≡ length_of b kind
+  unfolding length_of
+  length-kept kind = number-kept (1 + 8 * place_of kind + 4) (omega (arith, near kind))
+
+  entry_kept : (kind : Kind) → entry_fits (b ++ m) kind ≡ entry_fits b kind
   unfolding entry_fits
-  entry_kept n l =
-      rw (length-kept n l, byte-kept (1 + 8 * n) (omega arith), byte-kept (1 + 8 * n + 1) (omega arith), byte-kept (1 + 8 * n + 2) (omega arith), byte-kept (1 + 8 * n + 3) (omega arith))
+  entry_kept kind =
+      let n : ℕ = place_of kind in
+      let l : n < 4 = near kind in
+      rw (
+        length-kept kind,
+        byte-kept (1 + 8 * n) (omega arith),
+        byte-kept (1 + 8 * n + 1) (omega arith),
+        byte-kept (1 + 8 * n + 2) (omega arith),
+        byte-kept (1 + 8 * n + 3) (omega arith),
+      )
 
   contents-kept : contents_fit (b ++ m) ≡ contents_fit b
   unfolding contents_fit
@@ -54,10 +73,10 @@ module _ (b m : List ℕ) (h : 2310 ≤ length b) where
         le-leb 33 (length (b ++ m)) (long 33 (omega arith)),
         le-leb 33 (length b) (omega arith),
         byte-kept 0 (omega arith),
-        entry_kept 0 (omega arith),
-        entry_kept 1 (omega arith),
-        entry_kept 2 (omega arith),
-        entry_kept 3 (omega arith),
+        entry_kept Words,
+        entry_kept Table,
+        entry_kept Points,
+        entry_kept Symbols,
       )
 
   -- bodies
@@ -102,26 +121,28 @@ module _ (b m : List ℕ) (h : 2310 ≤ length b) where
   refusal-kept : header_refusal (b ++ m) ≡ header_refusal b
   unfolding header_refusal
   refusal-kept =
-      rw (contents-kept, length-kept 2 (omega arith))
-      (if_cong (contents_fit b) _ _ _ _ (λ t. bodies_kept (length_of b 2) (fitting b t).points) (λ t. refl))
+      rw (contents-kept, length-kept Points)
+      (if_cong (contents_fit b) _ _ _ _ (λ t. bodies_kept (length_of b Points) (fitting b t).points) (λ t. refl))
 
-  accepted-kept : header_refusal b ≡ 0 → accepted_heading (b ++ m) ≡ accepted_heading b
-  unfolding accepted_heading f_word s_word points_of
+  accepted-kept : header_refusal b ≡ Ok Prim.tt → accepted_heading (b ++ m) ≡ accepted_heading b
+  unfolding accepted_heading words_of loaded_of f_word s_word points_of
   accepted-kept e =
       let w = header_whole b e in
-      let f = fits (bits_of b) (length_of b 2) w.fits in
+      let f = fits (bits_of b) (length_of b Points) w.fits in
       rw (
         word_kept 33 (omega arith),
         word_kept 81 (omega arith),
         bits-kept,
         points_kept (2 * 2 ^ bits_of b) (omega (arith, f.few)),
-        length-kept 2 (omega arith),
-        length-kept 3 (omega arith),
-        scale_kept (length_of b 2) (fitting b w.contents).points,
+        length-kept Points,
+        length-kept Symbols,
+        scale_kept (length_of b Points) (fitting b w.contents).points,
       )
+
+  told-kept : (r : Result ⊤ Refusal) → (r ≡ Ok Prim.tt → accepted_heading (b ++ m) ≡ accepted_heading b) → told r (accepted_heading (b ++ m)) ≡ told r (accepted_heading b)
+  told-kept (Ok u) e = ap (λ (h : Heading). Ok h) (e refl)
+  told-kept (Err why) e = refl
 
   pub header-kept : header_of (b ++ m) ≡ header_of b
   unfolding header_of
-  header-kept =
-      rw refusal-kept
-      (if_cong (eqb (header_refusal b) 0) _ _ _ _ (λ t. accepted-kept (eqb-true (header_refusal b) 0 t)) (λ t. refl))
+  header-kept = rw refusal-kept (told-kept (header_refusal b) accepted-kept)

@@ -10,6 +10,8 @@ use lib.Dec.{ltb, eqb}
 use lib.IntN.{ℤ}
 use lib.ListN.{length, take, length-append}
 use lib.Seq.{take-append-le, take-append-add, take_all, take-nil}
+use Rattle.std.specs.Prelude.{Err}
+use Rattle.refusal.specs.declared.Refusal.TheVariants.{Bodies}
 use Rattle.laws.proofs.Tests.{by_test}
 use Rattle.laws.specs.Choice.{if_yes, if_no}
 use Rattle.capture.specs.Bytes.{signed_byte, signed_bytes}
@@ -41,7 +43,7 @@ unfolding acting_of
 over_acts left b r o e =
     rw (length-append b r, e) (ap signed_bytes (take-append-le (whole (min left (length b))) b r (omega arith)))
 
-over_ends : (left : ℕ) (b r : List ℕ) → (length b + length r ≡ left → ⊥) → ends_of left (b ++ r) ≡ 12
+over_ends : (left : ℕ) (b r : List ℕ) → (length b + length r ≡ left → ⊥) → ends_of left (b ++ r) ≡ Err Bodies
 unfolding ends_of
 over_ends left b r n = if_no _ _ _ (ne_eqb (length (b ++ r)) left (λ e. n (sym (length-append b r) ∙ e)))
 

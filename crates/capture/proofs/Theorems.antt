@@ -1,24 +1,25 @@
 -- What specs/Claims.antt claims. Assumes nothing.
-use mathlib.Core.Bool.{true}
 use mathlib.Core.List.{List, [], ◌∷◌, ◌++◌, append-nil}
 use mathlib.Core.Path.{◌≡◌, refl, sym, ap, ap₂, subst, ◌∙◌}
 use Prim.Native.Nat.{ℕ, ◌+◌, ◌*◌, ◌^◌, ◌%◌, ◌≤◌}
 use native.Mathlib.Omega.{arith}
-use borrow.Author.Tests.{eqb-true, eq-eqb, ne_eqb}
-use lib.Dec.{eqb}
+use borrow.Author.Tests.{eq-eqb}
 use lib.IntN.{ℤ}
 use lib.ListN.{length, drop, length-drop}
 use lib.Seq.{drop-append-le, take_at}
 use Rattle.laws.proofs.Lists.{length-firsts}
-use Rattle.laws.proofs.Tests.{by_test, if_cong, never}
-use Rattle.laws.specs.Choice.{if_yes, if_no}
+use Rattle.std.specs.Prelude.{Result, Ok, Err, ⊤, IsOk, IsErr}
+use Rattle.laws.proofs.Tests.{never}
+use Rattle.laws.specs.Choice.{if_yes}
+use Rattle.refusal.specs.declared.Refusal.{Refusal}
+use Rattle.refusal.specs.Refusals.{written}
 use Rattle.capture.specs.declared.Heading.{Heading}
 use Rattle.capture.specs.Bytes.{short_at}
-use Rattle.capture.specs.Bodies.{table_of, bits_of, points_from, points_of, padded, header_refusal, accepted_heading, refused_heading, header_of, answer_refusal, header_answer, header_table}
-use Rattle.capture.specs.Capture.{heading_points, acting_of, ends_of, loaded_capture, capture_of}
+use Rattle.capture.specs.Bodies.{table_of, bits_of, points_from, points_of, padded, header_refusal, told, loaded_of, accepted_heading, header_of, answer_refusal, header_answer, header_table}
+use Rattle.capture.specs.Capture.{Capture, heading_points, acting_of, ends_of, loaded_capture, behind, capture_of}
 use Rattle.capture.specs.Blocks.{played_of, ended_of, blockwise, joined, EvenBut, Reaches}
 use Rattle.capture.specs.Claims.{AnswerIs, PointsTold, HeaderKept, BlocksTell}
-use Rattle.capture.proofs.Laws.{fitting, header_whole}
+use Rattle.capture.proofs.Laws.{fitting, header_whole, told_was_ok}
 use Rattle.capture.proofs.Prefix.{header-kept, table_kept}
 use Rattle.capture.proofs.Shares.{tells}
 
@@ -31,19 +32,18 @@ record Start (b : List ℕ) (h : Heading) : Type 0 where
   at : h.from % 2 ≡ 0
   declared : h.declared % 2 ≡ 0
 
-accepted_starts : (b : List ℕ) → header_refusal b ≡ 0 → Start b (accepted_heading b)
+accepted_starts : (b : List ℕ) → header_refusal b ≡ Ok Prim.tt → Start b (accepted_heading b)
 unfolding accepted_heading
 accepted_starts b e =
     let w = header_whole b e in
     let f = fitting b w.contents in
     record { within = w.long; at = omega (arith, f.points.odd); declared = f.symbols }
 
-starts : (b : List ℕ) → eqb (header_of b).refusal 0 ≡ true → Start b (header_of b)
-unfolding header_of refused_heading
-starts b t =
-    by_test (eqb (header_refusal b) 0)
-    (λ r. subst (λ (h : Heading). Start b h) (sym (if_yes _ _ _ r)) (accepted_starts b (eqb-true (header_refusal b) 0 r)))
-    (λ r. absurd (never (sym t ∙ ap (λ (h : Heading). eqb h.refusal 0) (if_no _ _ _ r) ∙ r)))
+starts : (b : List ℕ) (h : Heading) → header_of b ≡ Ok h → Start b h
+unfolding header_of
+starts b h e =
+    let t = told_was_ok (header_refusal b) (accepted_heading b) h (sym e) in
+    subst (λ (h : Heading). Start b h) (sym t.1) (accepted_starts b t.0)
 
 -- what is left of the first block keeps the cut between symbols
 tail_even : (b : List ℕ) (bs : List (List ℕ)) (n : ℕ) → n % 2 ≡ 0 → n ≤ length b → EvenBut (b ∷ bs) → EvenBut (drop n b ∷ bs)
@@ -65,41 +65,37 @@ unfolding joined
 played b bs h s v =
     let t = tells h.declared (drop h.from b ∷ bs) s.declared (tail_even b bs h.from s.at s.within v) in
     let e = drop-append-le h.from b (joined bs) s.within in
-    rw e (ap₂ (λ (x : List ℤ) (y : ℕ). loaded_capture h (table_of b) x y) t.0 t.1)
+    rw e (ap₂ (λ (x : List ℤ) (y : Result ⊤ Refusal). loaded_capture h (table_of b) x y) t.0 t.1)
+
+behind_same : (r : Result Heading Refusal) (f g : Heading → Capture) → ((h : Heading) → r ≡ Ok h → f h ≡ g h) → behind r f ≡ behind r g
+behind_same (Ok h) f g e = ap (λ (c : Capture). Ok c) (e h refl)
+behind_same (Err why) f g e = refl
 
 pub blocks_tell : BlocksTell
 unfolding blockwise capture_of
 blocks_tell b bs r v =
     let k = kept b bs r in
-    rw (k.0, k.1)
-    (if_cong (eqb (header_of b).refusal 0) _ _ _ _ (λ t. played b bs (header_of b) (starts b t) v) (λ t. refl))
+    rw (k.0, k.1) (behind_same (header_of b) _ _ (λ h e. played b bs h (starts b h e) v))
 
 -- ---- the entry's answer
-header_refusal_lem : (s : List ℕ) → (header_of s).refusal ≡ header_refusal s
-unfolding header_of accepted_heading refused_heading
-header_refusal_lem s =
-    by_test (eqb (header_refusal s) 0)
-    (λ t. ap (λ (h : Heading). h.refusal) (if_yes _ _ _ t) ∙ sym (eqb-true (header_refusal s) 0 t))
-    (λ t. ap (λ (h : Heading). h.refusal) (if_no _ _ _ t))
-
 room_is : (n : ℕ) (s : List ℕ) → n ≡ 1024 → answer_refusal n s ≡ header_refusal s
 unfolding answer_refusal
 room_is n s e = if_yes _ _ _ (eq-eqb n 1024 e)
 
+table_if : (r : Result ⊤ Refusal) (h : Heading) (t u : List ℤ) → (IsOk (told r h) → written r t u ≡ u) × (IsErr (told r h) → written r t u ≡ t)
+table_if (Ok x) h t u = (λ k. refl, λ k. absurd (never (sym k)))
+table_if (Err why) h t u = (λ k. absurd (never (sym k)), λ k. refl)
+
 pub answer_is : AnswerIs
 unfolding header_answer header_table header_of
 answer_is s t e =
-    let r = room_is (length t) s e in
-    let h = header_refusal_lem s in (
-      rw r,
-      (λ z. if_yes _ _ _ (eq-eqb (answer_refusal (length t) s) 0 (r ∙ sym h ∙ z))),
-      λ z. if_no _ _ _ (ne_eqb (answer_refusal (length t) s) 0 (λ q. z (h ∙ sym r ∙ q))),
-    )
+    let a = table_if (header_refusal s) (accepted_heading s) t (table_of s) in rw (room_is (length t) s e) (refl, a.0, a.1)
 
 accepted_points : (s : List ℕ) → heading_points (accepted_heading s) ≡ points_of s
-unfolding heading_points accepted_heading padded points_of points_from
+unfolding heading_points accepted_heading loaded_of padded points_of points_from
 accepted_points s = take_at (points_of s) _ (2 * 2 ^ bits_of s) (length-firsts (λ (i : ℕ). short_at s (2178 + 2 * i)) (2 * 2 ^ bits_of s))
 
 pub points-told : PointsTold
 unfolding header_of
-points-told s z = ap heading_points (if_yes _ _ _ (eq-eqb (header_refusal s) 0 (sym (header_refusal_lem s) ∙ z))) ∙ accepted_points s
+points-told s h e =
+    ap heading_points (told_was_ok (header_refusal s) (accepted_heading s) h (sym e)).1 ∙ accepted_points s

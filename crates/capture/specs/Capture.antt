@@ -1,14 +1,15 @@
 -- A whole input: document 01, "In kind 4 each whole symbol acts before an early end or a following byte is met", and the row
 -- "capture bodies | 12 | a body ends early, or bytes follow the last".
-use Rattle.std.specs.Prelude.{ℕ, ◌*◌, ◌/◌, ◌^◌, min, List, [], eqb, ℤ, length, take, drop}
+use Rattle.std.specs.Prelude.{ℕ, ◌*◌, ◌/◌, ◌^◌, min, List, eqb, ℤ, length, take, drop, Result, Ok, Err, ⊤}
 use Rattle.laws.specs.Choice.{when◌then◌else◌}
+use Rattle.refusal.specs.declared.Refusal.{Refusal}
+use Rattle.refusal.specs.declared.Refusal.TheVariants.{Bodies}
 use Rattle.capture.specs.declared.Heading.{Heading}
 use Rattle.capture.specs.Bytes.{signed_bytes}
 use Rattle.capture.specs.Bodies.{table_of, header_of}
 
+-- Contents and bodies up to the symbols may be refused, by 2, 4, 5, 11 or 12: then nothing is loaded and nothing acts.
 pub record Capture : Type 0 where
-  -- of contents and bodies up to the symbols: 0, 2, 4, 5, 11 or 12. After one nothing is loaded and nothing acts
-  pub refusal : ℕ
   -- words, carrier table, constellation
   pub f : List ℤ
   pub s : List ℤ
@@ -19,8 +20,8 @@ pub record Capture : Type 0 where
   -- the declared length of the symbols, and the bytes of those that act, I before Q
   pub declared : ℕ
   pub symbols : List ℤ
-  -- how it ends: 0, or the refusal's number
-  pub ends : ℕ
+  -- how it ends
+  pub ends : Result ⊤ Refusal
 
 -- the bytes of whole symbols among n
 abbrev pub whole : ℕ → ℕ
@@ -30,36 +31,34 @@ whole n = 2 * (n / 2)
 unfoldable pub acting_of : ℕ → List ℕ → List ℤ
 acting_of declared rest = signed_bytes (take (whole (min declared (length rest))) rest)
 
-unfoldable pub ends_of : ℕ → List ℕ → ℕ
-ends_of declared rest = when eqb (length rest) declared then 0 else 12
+unfoldable pub ends_of : ℕ → List ℕ → Result ⊤ Refusal
+ends_of declared rest = when eqb (length rest) declared then Ok Prim.tt else Err Bodies
 
 -- the points of a heading, without the zeros behind
 unfoldable pub heading_points : Heading → List ℤ
-heading_points h = take (2 * 2 ^ h.bits) h.points
+heading_points h = take (2 * 2 ^ h.points.bits) h.points.numbers
 
-unfoldable pub loaded_capture : Heading → List ℤ → List ℤ → ℕ → Capture
+unfoldable pub loaded_capture : Heading → List ℤ → List ℤ → Result ⊤ Refusal → Capture
 loaded_capture h table symbols ends =
     record {
-      refusal = 0;
-      f = h.f;
-      s = h.s;
+      f = h.words.f;
+      s = h.words.s;
       table = table;
-      bits = h.bits;
+      bits = h.points.bits;
       points = heading_points h;
-      k = h.k;
+      k = h.points.k;
       declared = h.declared;
       symbols = symbols;
       ends = ends;
     }
 
-unfoldable pub refused_capture : ℕ → Capture
-refused_capture n =
-    record { refusal = n; f = []; s = []; table = []; bits = 0; points = []; k = 0; declared = 0; symbols = []; ends = n }
+-- what is made of the bytes behind a header, if it is not refused
+abbrev pub behind : Result Heading Refusal → (Heading → Capture) → Result Capture Refusal
+behind (Ok h) load = Ok (load h)
+behind (Err why) load = Err why
 
-unfoldable pub capture_of : List ℕ → Capture
+unfoldable pub capture_of : List ℕ → Result Capture Refusal
 capture_of s =
-    let h = header_of s in
-    let rest = drop h.from s in
-    when eqb h.refusal 0
-    then loaded_capture h (table_of s) (acting_of h.declared rest) (ends_of h.declared rest)
-    else refused_capture h.refusal
+    behind (header_of s)
+    (λ (h : Heading).
+    let rest = drop h.from s in loaded_capture h (table_of s) (acting_of h.declared rest) (ends_of h.declared rest))

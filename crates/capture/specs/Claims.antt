@@ -1,5 +1,6 @@
 -- What is claimed of the definitions; proofs/Theorems.antt proves it.
-use Rattle.std.specs.Prelude.{ℕ, ◌≤◌, List, ◌∷◌, ◌++◌, ◌≡◌, ℤ, length}
+use Rattle.std.specs.Prelude.{ℕ, ◌≤◌, List, ◌∷◌, ◌++◌, ◌≡◌, ℤ, length, Ok, IsOk, IsErr}
+use Rattle.capture.specs.declared.Heading.{Heading}
 use Rattle.capture.specs.Bodies.{table_of, points_of, header_of, header_answer, header_table}
 use Rattle.capture.specs.Capture.{heading_points, capture_of}
 use Rattle.capture.specs.Blocks.{blockwise, joined, EvenBut, Reaches}
@@ -8,11 +9,11 @@ use Rattle.capture.specs.Blocks.{blockwise, joined, EvenBut, Reaches}
 abbrev pub AnswerIs : Type 0
 AnswerIs =
     (s : List ℕ) (t : List ℤ) → length t ≡ 1024 →
-    (header_answer (length t) s ≡ header_of s) × ((header_of s).refusal ≡ 0 → header_table t s ≡ table_of s) × (((header_of s).refusal ≡ 0 → ⊥) → header_table t s ≡ t)
+    (header_answer (length t) s ≡ header_of s) × (IsOk (header_of s) → header_table t s ≡ table_of s) × (IsErr (header_of s) → header_table t s ≡ t)
 
 -- the points of an accepted heading, without the zeros behind, are those of the file
 abbrev pub PointsTold : Type 0
-PointsTold = (s : List ℕ) → (header_of s).refusal ≡ 0 → heading_points (header_of s) ≡ points_of s
+PointsTold = (s : List ℕ) (h : Heading) → header_of s ≡ Ok h → heading_points h ≡ points_of s
 
 -- 2,310 bytes tell all that stands before the symbols
 abbrev pub HeaderKept : Type 0

@@ -1,8 +1,10 @@
 -- Captures in small, each with the symbol bytes that act and with its end: 0, or the refusal's number.
-use Rattle.std.specs.Prelude.{ℕ, ◌+◌, ◌-◌, ◌^◌, List, [], ◌∷◌, ◌++◌, ℤ, pos, replicate, take}
+use Rattle.std.specs.Prelude.{ℕ, ◌+◌, ◌-◌, ◌^◌, List, [], ◌∷◌, ◌++◌, ℤ, pos, replicate, take, Result, Ok, Err}
 use Rattle.laws.specs.Choice.{minus}
 use Rattle.wire.specs.Wire.{byte_of}
-use Rattle.capture.specs.Capture.{capture_of}
+use Rattle.refusal.specs.declared.Refusal.{Refusal}
+use Rattle.refusal.specs.Refusals.{number_of, code_of}
+use Rattle.capture.specs.Capture.{Capture, capture_of}
 
 pub record Outcome : Type 0 where
   pub symbols : List ℤ
@@ -12,8 +14,12 @@ pub record Example : Type 0 where
   pub given : Outcome
   pub said : Outcome
 
+abbrev outcome : Result Capture Refusal → Outcome
+outcome (Ok c) = record { symbols = c.symbols; ends = code_of c.ends }
+outcome (Err why) = record { symbols = []; ends = number_of why }
+
 unfoldable pub outcome_of : List ℕ → Outcome
-outcome_of s = let c = capture_of s in record { symbols = c.symbols; ends = c.ends }
+outcome_of s = outcome (capture_of s)
 
 infix 4 ◌plays◌ends◌
 abbrev pub ◌plays◌ends◌ : List ℕ → List ℤ → ℕ → Example

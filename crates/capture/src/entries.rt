@@ -1,17 +1,46 @@
 // An entry of the contents.
-ghost use Rattle.std.specs.Prelude.{◌≡◌, ◌+◌, ◌*◌, ◌≤◌, ◌<◌, length};
-ghost use Rattle.capture.specs.Contents.{kind_fits, length_fits, entry_of};
+ghost use Rattle.std.specs.Prelude.{◌≡◌, ◌<◌, ◌≤◌, length};
+ghost use Rattle.capture.specs.Contents.{place_of, kind_fits, length_fits, entry_of};
 
 use crate::numbers;
+use refusal::Refusal;
 
-// If the entry is as it should be, and its body's length.
-#[derive(Clone, Copy)]
-pub struct Listed {
-    pub fits: bool,
-    pub length: u32,
+// What a body holds.
+#[derive(Clone, Copy, Debug, PartialEq, Eq)]
+pub enum Kind {
+    Words,
+    Table,
+    Points,
+    Symbols,
 }
 
-// The first four bytes of entry n: its kind and three zeros.
+impl Kind {
+    // Its entry's place among the four. The entry itself has the number after it.
+    fn place(self) -> u8
+        ensures { (result ≡ place_of self) × (result < 4) }
+    {
+        match self {
+            Kind::Words => 0,
+            Kind::Table => 1,
+            Kind::Points => 2,
+            Kind::Symbols => 3,
+        }
+    }
+
+    // The body length is one that its entry may declare.
+    fn length_fits(self, l: u32) -> bool
+        ensures { result ≡ length_fits self l }
+    {
+        match self {
+            Kind::Words => l == 96,
+            Kind::Table => l == 2048,
+            Kind::Points => matches!(l, 13 | 21 | 37 | 69 | 133),
+            Kind::Symbols => l % 2 == 0,
+        }
+    }
+}
+
+// The first four bytes of the entry at place n: its kind's number and three zeros.
 fn kind_fits(n: u8, a: u8, b: u8, c: u8, d: u8) -> bool
     requires { n < 4 }
     ensures { result ≡ kind_fits n a b c d }
@@ -19,32 +48,17 @@ fn kind_fits(n: u8, a: u8, b: u8, c: u8, d: u8) -> bool
     (a == n + 1) & (b == 0) & (c == 0) & (d == 0)
 }
 
-// The body length is one that entry n may declare.
-fn length_fits(n: u8, l: u32) -> bool
-    ensures { result ≡ length_fits n l }
+// The body length that the kind's entry declares.
+pub(crate) fn entry(bytes: &[u8], kind: Kind) -> Result<u32, Refusal>
+    requires { 33 ≤ length bytes.now }
+    ensures { result ≡ entry_of bytes.now kind }
 {
-    if n == 0 {
-        l == 96
-    } else if n == 1 {
-        l == 2048
-    } else if n == 2 {
-        (l == 13) | (l == 21) | (l == 37) | (l == 69) | (l == 133)
-    } else {
-        l % 2 == 0
-    }
-}
-
-// Entry n, from 0.
-pub(crate) fn entry(bytes: &[u8], n: u8) -> Listed
-    requires { (n < 4) × (33 ≤ length bytes.now) }
-    ensures { result ≡ entry_of bytes.now n }
-{
+    let n = kind.place();
     let k = 1 + 8 * (n as usize);
     let length = numbers::number(bytes, k + 4);
-    let kind = kind_fits(n, bytes[k], bytes[k + 1], bytes[k + 2], bytes[k + 3]);
-    let body = length_fits(n, length);
-    Listed {
-        fits: kind & body,
-        length: length,
+    if kind_fits(n, bytes[k], bytes[k + 1], bytes[k + 2], bytes[k + 3]) & kind.length_fits(length) {
+        Ok(length)
+    } else {
+        Err(Refusal::Contents)
     }
 }

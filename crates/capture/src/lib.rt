@@ -5,36 +5,58 @@ mod bodies;
 mod entries;
 mod numbers;
 
-ghost use Rattle.std.specs.Prelude.{◌≡◌, min, length};
+ghost use Rattle.std.specs.Prelude.{◌≡◌, ◌*◌, ◌≤◌, ◌^◌, min, length, take};
 ghost use Rattle.capture.specs.Bytes.{signed_into};
 ghost use Rattle.capture.specs.Contents.{contents_of};
-ghost use Rattle.capture.specs.Bodies.{answer_refusal, header_answer, header_table};
+ghost use Rattle.capture.specs.Bodies.{header_answer, header_table};
 ghost use Rattle.capture.specs.Blocks.{shared_of};
 
+use entries::Kind;
+use refusal::Refusal;
+
 // The declared lengths of points and symbols.
-#[derive(Clone, Copy)]
+#[derive(Clone, Copy, Debug, PartialEq, Eq)]
 pub struct Lengths {
-    pub refusal: u8,
     pub points: u32,
     pub symbols: u32,
 }
 
-// All that stands before the symbols but the table. Points fill the first 2 × 2^bits places; `from` is the first symbol's byte, `declared`
-// the length of the symbols.
-#[derive(Clone, Copy)]
-pub struct Heading {
-    pub refusal: u8,
+// The words of the sync symbols.
+#[derive(Clone, Copy, Debug, PartialEq, Eq)]
+pub struct Words {
     pub f: [i8; 48],
     pub s: [i8; 48],
+}
+
+// The constellation. Its numbers fill the first 2 × 2^bits places: the memory is fixed, and so long for any bits.
+#[derive(Clone, Copy, Debug, PartialEq, Eq)]
+pub struct Points {
     pub bits: u8,
-    pub points: [i16; 64],
+    pub numbers: [i16; 64],
     pub k: u32,
+}
+
+impl Points {
+    // The numbers of the points, without the zeros behind. Bits of more than 5, which no header has, are taken for 5.
+    pub fn loaded(&self) -> &[i16]
+        ensures { self.now.bits ≤ 5 → result.now ≡ take (2 * 2 ^ self.now.bits) self.now.numbers }
+    {
+        &self.numbers[..2 << self.bits.min(5)]
+    }
+}
+
+// All that stands before the symbols but the table. `from` is the first symbol's byte, `declared` the length of the symbols.
+#[derive(Clone, Copy, Debug, PartialEq, Eq)]
+pub struct Heading {
+    pub words: Words,
+    pub points: Points,
     pub from: usize,
     pub declared: u32,
 }
 
-// Of a block: the bytes that act, what is declared after it, and if bytes are over, which ends the capture with 12.
-#[derive(Clone, Copy)]
+// Of a block: the bytes that act, what is declared after it, and if bytes are over, which ends the capture with 12. Count and what is left hold whether bytes are
+// over or not, so that `over` is no Option's or Result's case.
+#[derive(Clone, Copy, Debug, PartialEq, Eq)]
 pub struct Shared {
     pub count: usize,
     pub left: u32,
@@ -42,70 +64,43 @@ pub struct Shared {
 }
 
 // The contents: 33 bytes.
-pub fn contents(bytes: &[u8]) -> Lengths
+pub fn contents(bytes: &[u8]) -> Result<Lengths, Refusal>
     ensures { result ≡ contents_of bytes.now }
 {
-    if bytes.len() < 33 {
-        return Lengths {
-            refusal: 11,
-            points: 0,
-            symbols: 0,
-        };
+    if bytes.len() < 33 || bytes[0] != 4 {
+        return Err(Refusal::Contents);
     }
-    let w = entries::entry(bytes, 0);
-    let t = entries::entry(bytes, 1);
-    let p = entries::entry(bytes, 2);
-    let s = entries::entry(bytes, 3);
-    if (bytes[0] == 4) & w.fits & t.fits & p.fits & s.fits {
-        Lengths {
-            refusal: 0,
-            points: p.length,
-            symbols: s.length,
-        }
-    } else {
-        Lengths {
-            refusal: 11,
-            points: 0,
-            symbols: 0,
-        }
-    }
-}
-
-// The refusal of a header with a lent table of `room` entries.
-fn refusal(bytes: &[u8], room: usize) -> u8
-    ensures { result ≡ answer_refusal room bytes.now }
-{
-    if room == 1024 {
-        let c = contents(bytes);
-        if c.refusal == 0 {
-            bodies::refusal(bytes, c.points)
-        } else {
-            11
-        }
-    } else {
-        3
-    }
+    entries::entry(bytes, Kind::Words)?;
+    entries::entry(bytes, Kind::Table)?;
+    let points = entries::entry(bytes, Kind::Points)?;
+    let symbols = entries::entry(bytes, Kind::Symbols)?;
+    Ok(Lengths { points, symbols })
 }
 
 // Contents, words, table and points. A refusal leaves the lent table as it is.
-pub fn header(bytes: &[u8], table: &mut [i16]) -> Heading
+pub fn header(bytes: &[u8], table: &mut [i16]) -> Result<Heading, Refusal>
     ensures { (result ≡ header_answer (length table.old) bytes.now) × (table.new ≡ header_table table.old bytes.now) }
 {
-    let n = refusal(bytes, table.len());
-    if n == 0 {
-        let c = contents(bytes);
-        bodies::table(bytes, table);
-        bodies::accepted(bytes, c.points, c.symbols)
-    } else {
-        bodies::refused(n)
+    if table.len() != 1024 {
+        return Err(Refusal::Table);
     }
+    let lengths = contents(bytes)?;
+    let words = bodies::words(bytes)?;
+    let points = bodies::points(bytes, lengths.points)?;
+    bodies::table(bytes, table);
+    Ok(Heading {
+        words,
+        points,
+        from: 2177 + (lengths.points as usize),
+        declared: lengths.symbols,
+    })
 }
 
 // A block of `have` bytes where `left` bytes of symbols are still declared. At the input's end the capture ends with 12 if any are left.
 pub fn share(left: u32, have: usize) -> Shared
     ensures { result ≡ shared_of left have }
 {
-    let n = 2 * (numbers::lesser(left as usize, have) / 2);
+    let n = 2 * ((left as usize).min(have) / 2);
     Shared {
         count: n,
         left: left - (n as u32),
@@ -117,11 +112,9 @@ pub fn share(left: u32, have: usize) -> Shared
 pub fn symbols(bytes: &[u8], out: &mut [i8]) -> usize
     ensures { (result ≡ min (length bytes.now) (length out.old)) × (out.new ≡ signed_into bytes.now out.old) }
 {
-    let n = numbers::lesser(bytes.len(), out.len());
-    let mut i: usize = 0;
-    while i < n {
+    let n = bytes.len().min(out.len());
+    for i in 0..n {
         out[i] = numbers::signed_byte(bytes[i]);
-        i += 1;
     }
     n
 }

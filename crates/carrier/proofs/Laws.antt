@@ -1,25 +1,26 @@
 -- What the ranges give, what is accepted, and how large a rotated symbol is. Assumes nothing.
+use Rattle.std.specs.Prelude.{Option, None, Some, Ok}
 use mathlib.Core.Path.{◌≡◌}
 use mathlib.Core.Bool.{true, ◌&&◌}
-use Prim.Native.Nat.{ℕ, ◌+◌, ◌≤◌, suc}
+use Prim.Native.Nat.{ℕ, ◌+◌, ◌≤◌}
 use native.Mathlib.Omega.{arith}
 use borrow.Author.Tests.{leb-true, eqb-true}
 use lib.Dec.{eqb, leb, lit<}
 use lib.IntN.{ℤ, pos, negsuc, nat_abs}
 use lib.Signed.{le_z}
-use Rattle.laws.proofs.Tests.{and_both, if_either}
+use Rattle.laws.proofs.Taken.{ok_yes}
+use Rattle.laws.proofs.Tests.{and_both}
 use Rattle.laws.specs.Choice.{minus}
 use Rattle.angles.proofs.Laws.{turned_size}
 use Rattle.angles.specs.Angles.{turned_back}
 use Rattle.fx.specs.declared.CosSin.{CosSin}
 use Rattle.fx.specs.declared.Parts.{Parts}
+use Rattle.refusal.specs.declared.Refusal.TheVariants.{Table, Arithmetic}
 use Rattle.sync_heads.specs.declared.Head.{Head}
 use Rattle.carrier.specs.Answers.{rotate_refusal, head_refusal}
 use Rattle.carrier.specs.Ranges.{steps_in_range, trail_in_range, nco_in_range, StepsOk, TrailOk, NcoOk}
 use Rattle.carrier.specs.declared.Nco.{Nco}
 use Rattle.carrier.specs.declared.Steps.{Steps}
-use Rattle.carrier.specs.declared.Trail.{Trail}
-use Rattle.carrier.specs.declared.Trail.TheVariants.{Empty, Since}
 
 -- ---- what the ranges give
 sum_size : (z : ℤ) → le_z (minus 126701535232) z ≡ true → le_z z (pos 126701535173) ≡ true → nat_abs z ≤ 126701535232
@@ -33,35 +34,25 @@ steps_ok s e =
     let k = and_both (leb s.steps 59) (le_z (minus 126701535232) s.sum) h.0 in
     record { steps = leb-true s.steps 59 k.0; sum = sum_size s.sum k.1 h.1 }
 
-trail_ok : (t : Trail) → trail_in_range t ≡ true → TrailOk t
+trail_ok : (t : Option Steps) → trail_in_range t ≡ true → TrailOk t
 unfolding trail_in_range
-trail_ok Empty e = tt
-trail_ok (Since s) e = steps_ok s e
+trail_ok None e = tt
+trail_ok (Some s) e = steps_ok s e
 
 pub nco_ok : (n : Nco) → nco_in_range n ≡ true → NcoOk n
 unfolding nco_in_range
 nco_ok n e = record { trail = trail_ok n.trail e }
 
 -- ---- what is accepted
-apart : (k : ℕ) → suc k ≡ 0 → ⊥
-apart k e = omega arith
-
-pub rotate_accepts : (n : Nco) (len : ℕ) → rotate_refusal n len ≡ 0 → (len ≡ 1024) × (nco_in_range n ≡ true)
+pub rotate_accepts : (n : Nco) (len : ℕ) → rotate_refusal n len ≡ Ok tt → (len ≡ 1024) × (nco_in_range n ≡ true)
 unfolding rotate_refusal
-rotate_accepts n len =
-    if_either Zero (eqb len 1024) _ _
-    (λ a. if_either Zero (nco_in_range n) _ _ (λ b z. (eqb-true len 1024 a, b)) (λ b z. absurd (apart 5 z)))
-    (λ a z. absurd (apart 2 z))
-  where
-    Zero : ℕ → Type 0
-    Zero x = x ≡ 0 → (len ≡ 1024) × (nco_in_range n ≡ true)
+rotate_accepts n len e =
+    let a = ok_yes (eqb len 1024) _ Table e in
+    (eqb-true len 1024 a.0, (ok_yes (nco_in_range n) (Ok tt) Arithmetic a.1).0)
 
-pub head-accepts : (n : Nco) (h : Head) → head_refusal n h ≡ 0 → nco_in_range n ≡ true
+pub head-accepts : (n : Nco) (h : Head) → head_refusal n h ≡ Ok tt → nco_in_range n ≡ true
 unfolding head_refusal
-head-accepts n h = if_either Zero (nco_in_range n) _ _ (λ b z. b) (λ b z. absurd (apart 5 z))
-  where
-    Zero : ℕ → Type 0
-    Zero x = x ≡ 0 → nco_in_range n ≡ true
+head-accepts n h e = (ok_yes (nco_in_range n) _ Arithmetic e).0
 
 -- ---- a rotated symbol's parts
 pub record Small (p : Parts) : Type 0 where

@@ -5,19 +5,23 @@ use mathlib.Core.Bool.{Bool, true, false, ◌||◌}
 use mathlib.Core.List.{List, [], ◌∷◌, ◌++◌}
 use Prim.Native.Nat.{ℕ, ◌+◌, ◌%◌, ◌^◌, ◌≤◌, ◌<◌}
 use native.Mathlib.Omega.{arith}
-use borrow.Author.Tests.{ltb-true, ltb-false, eqb-true}
-use lib.Dec.{eqb, ltb, leb}
+use borrow.Author.Tests.{ltb-true, ltb-false}
+use lib.Dec.{ltb, leb}
 use lib.IntN.{ℤ, pos, nat_abs, +ℤ_idl}
 use lib.ListN.{length, get_or, replicate, get_or-eq_default}
+use Rattle.std.specs.Prelude.{Result, Ok, is_ok}
+use Rattle.refusal.proofs.Answered.{answered_both, answered_either, refused_by}
+use Rattle.refusal.specs.Refusals.{answered, code_of, number_of, state_after}
+use Rattle.refusal.specs.declared.Refused.{Refused}
 use Rattle.laws.proofs.Tests.{by_test, if_both, if_either}
-use Rattle.laws.specs.Choice.{if_yes, if_no}
+use Rattle.laws.specs.Choice.{if_yes}
 use Rattle.fx.specs.Answers.{wide}
 use Rattle.fx.specs.Fx.{round_index, cos_sin_at}
 use Rattle.sync_heads.specs.declared.Head.{Head}
 use Rattle.sync_heads.specs.declared.Word.{Word}
 use Rattle.sync_heads.specs.declared.Word.TheVariants.{Ssync, Fsync, NotFsync}
-use Rattle.carrier.specs.Answers.{rotate_answer, head_refusal, head_answer, restart_answer}
-use Rattle.carrier.specs.Calls.{Call, Keeps, Sound, CallsKeep, nco_of, nco_after}
+use Rattle.carrier.specs.Answers.{rotate_refusal, rotate_answer, head_refusal, head_answer, restart_answer}
+use Rattle.carrier.specs.Calls.{Call, Keeps, Sound, CallsKeep, rotated_nco, heard_nco, nco_of, nco_after}
 use Rattle.carrier.specs.Calls.{rotate, hear, restart}
 use Rattle.carrier.specs.Carrier.{started_nco, rotated_of, advanced_nco, tuned, word_heard, heard_of}
 use Rattle.carrier.specs.Coherent.{Coherent}
@@ -25,10 +29,9 @@ use Rattle.carrier.specs.Ranges.{nco_in_range}
 use Rattle.carrier.specs.Settings.{nco_heard, sets_heard, turns_of, last_of, since_nco, head_angles, angles_of, NoRestart}
 use Rattle.carrier.specs.declared.Heard.{Heard}
 use Rattle.carrier.specs.declared.Nco.{Nco}
-use Rattle.carrier.specs.declared.Restarted.{Restarted}
 use Rattle.carrier.specs.declared.Rotated.{Rotated}
 use Rattle.carrier.proofs.Laws.{turned_small}
-use Rattle.carrier.proofs.Kept.{word_coherent, word_taken, trail_within_lem, rotate_not_6, head_6, head-refused, head_taken}
+use Rattle.carrier.proofs.Kept.{word_coherent, trail_within_lem, rotate_not_6, head_6, head-refused, head_taken}
 use Rattle.carrier.proofs.Hearing.{wait_go, set_go, first-heard, at_phase, heard_phase, rotate_phase, heard_append, word_angles_lem}
 
 -- ---- COHERENT: a carrier that starts, with any phase and step, is coherent
@@ -39,9 +42,12 @@ start_coherent phase freq = record { trail = tt }
 -- any call of a coherent carrier, refused or not, leaves a coherent one
 pub answer_coherent : (n : Nco) (c : Call) → Coherent n → Coherent (nco_of n c)
 unfolding nco_of rotate_answer advanced_nco head_answer heard_of restart_answer
-answer_coherent n (rotate xi xq table) c = if_both (λ (x : Rotated). Coherent x.nco) _ _ _ (record { trail = c.trail }) c
-answer_coherent n (hear h) c = if_both (λ (x : Heard). Coherent x.nco) _ _ _ (word_coherent n h.word h.theta c) c
-answer_coherent n restart c = if_both (λ (x : Restarted). Coherent x.nco) _ _ _ (start_coherent n.phase n.freq) c
+answer_coherent n (rotate xi xq table) c =
+    answered_both (λ (x : Result Rotated (Refused Nco)). Coherent (rotated_nco x)) (rotate_refusal n (length table)) n
+    (record { nco = advanced_nco n; symbol = rotated_of table n.phase xi xq }) (record { trail = c.trail }) (λ why. c)
+answer_coherent n (hear h) c =
+    answered_both (λ (x : Result Heard (Refused Nco)). Coherent (heard_nco x)) (head_refusal n h) n (heard_of n h) (word_coherent n h.word h.theta c) (λ why. c)
+answer_coherent n restart c = if_both (λ (x : Result Nco (Refused Nco)). Coherent (state_after x)) _ _ _ (start_coherent n.phase n.freq) c
 
 -- .. and so do several
 pub answers_coherent : (n : Nco) (cs : List Call) → Coherent n → Coherent (nco_after n cs)
@@ -59,19 +65,16 @@ keeps = record { started = start_coherent; answered = answer_coherent; in_range 
 
 -- in range, it is refused nothing with 6 but a head with an `amp` of size over 2^60
 pub sound : (n : Nco) → Coherent n → Sound n
-unfolding rotate_answer head_answer heard_of restart_answer
+unfolding rotate_answer head_answer restart_answer
 sound n c =
     let e = coherent_in_range n c in
     record {
       coherent = c;
       in_range = e;
-      rotates = λ xi xq table. if_both (λ (x : Rotated). x.refusal ≡ 6 → ⊥) _ _ _ (λ z. omega arith) (rotate_not_6 n (length table) e);
-      hears = λ h. if_both (λ (x : Heard). x.refusal ≡ 6 → wide h.amp ≡ true) _ _ _ (λ z. absurd (taken h z)) (head_6 n h e);
-      restarts = ap (λ (x : Restarted). x.refusal) (if_yes _ _ _ e);
+      rotates = λ xi xq table x a z. rotate_not_6 n (length table) e (ap code_of (refused_by _ _ _ x a) ∙ ap number_of z);
+      hears = λ h x a z. head_6 n h e (ap code_of (refused_by _ _ _ x a) ∙ ap number_of z);
+      restarts = ap is_ok (if_yes _ _ _ e);
     }
-  where
-    taken : (h : Head) → (word_heard n h.word h.theta).refusal ≡ 6 → ⊥
-    taken h z = omega (arith, word_taken n h.word h.theta)
 
 -- ---- CALLS: a carrier that starts, and that any calls then leave, is coherent and in range, and is not refused with 6
 pub calls_keep : CallsKeep
@@ -80,7 +83,7 @@ calls_keep phase freq cs =
     sound n (answers_coherent (started_nco phase freq) cs (start_coherent phase freq))
 
 -- ---- RESTART: a carrier started anew with the phase and step that it had
-pub restart_starts : (n : Nco) → nco_in_range n ≡ true → restart_answer n ≡ record { refusal = 0; nco = started_nco n.phase n.freq }
+pub restart_starts : (n : Nco) → nco_in_range n ≡ true → restart_answer n ≡ Ok (started_nco n.phase n.freq)
 unfolding restart_answer
 restart_starts n e = if_yes _ _ _ e
 
@@ -144,14 +147,11 @@ start_sets p f a rest l =
     (ap (λ (x : Heard). nco_heard x.nco rest) e ∙ g.0, ap (λ (x : Heard). x.set ∷ sets_heard x.nco rest) e ∙ ap (λ (l : List Bool). false ∷ l) g.1)
 
 -- ---- OTHER WORDS: a head that is no Ssync, refused or not, changes nothing
-pub others_unheard : (n : Nco) (h : Head) → (h.word ≡ Ssync → ⊥) → head_answer n h ≡ record { refusal = head_refusal n h; nco = n; set = false }
+pub others_unheard : (n : Nco) (h : Head) → (h.word ≡ Ssync → ⊥) → head_answer n h ≡ answered (head_refusal n h) n (record { nco = n; set = false })
 unfolding head_answer heard_of word_heard
-others_unheard n h other =
-    if_either (λ (x : Heard). x ≡ record { refusal = head_refusal n h; nco = n; set = false }) (eqb (head_refusal n h) 0) _ _
-    (λ e. word-other h.word other ∙ rw (eqb-true (head_refusal n h) 0 e))
-    (λ e. refl)
+others_unheard n h other = ap (answered (head_refusal n h) n) (word-other h.word other)
   where
-    word-other : (w : Word) → (w ≡ Ssync → ⊥) → word_heard n w h.theta ≡ record { refusal = 0; nco = n; set = false }
+    word-other : (w : Word) → (w ≡ Ssync → ⊥) → word_heard n w h.theta ≡ record { nco = n; set = false }
     word-other Ssync u = absurd (u refl)
     word-other Fsync u = refl
     word-other NotFsync u = refl
@@ -159,16 +159,18 @@ others_unheard n h other =
 -- ---- ANGLES: whatever symbols and other heads come between, step and trail are what the angles of the Ssync heads alone make of them
 -- an Ssync head that is not refused answers as `nco_heard` and `sets_heard` go on
 pub ssync_answers : (n : Nco) (h : Head) → nco_in_range n ≡ true → (wide h.amp || leb (2 ^ 62) h.at) ≡ false → h.word ≡ Ssync →
-    head_answer n h ≡ word_heard n Ssync h.theta
+    head_answer n h ≡ Ok (word_heard n Ssync h.theta)
 unfolding head_answer heard_of
-ssync_answers n h c e w = if_yes _ _ _ (head_taken n h c e) ∙ ap (λ (x : Word). word_heard n x h.theta) w
+ssync_answers n h c e w = rw (head_taken n h c e, w)
 
 hear_angles : (n : Nco) (h : Head) → Coherent n → nco_of n (hear h) ≡ nco_heard n (head_angles h)
 unfolding nco_of head_answer heard_of head_angles
 hear_angles n h c =
-    if_either (λ (l : List ℕ). (head_answer n h).nco ≡ nco_heard n l) (wide h.amp || leb (2 ^ 62) h.at) _ _
-    (λ e. ap (λ (x : Heard). x.nco) (if_no _ _ _ (head-refused n h e)) ∙ none)
-    (λ e. ap (λ (x : Heard). x.nco) (if_yes _ _ _ (head_taken n h (coherent_in_range n c) e)) ∙ word_angles_lem n h.word h.theta)
+    if_either (λ (l : List ℕ). heard_nco (head_answer n h) ≡ nco_heard n l) (wide h.amp || leb (2 ^ 62) h.at) _ _
+    (λ e.
+    answered_either (λ (x : Result Heard (Refused Nco)). heard_nco x ≡ nco_heard n []) (head_refusal n h) n (heard_of n h)
+    (λ z. absurd (head-refused n h e z)) (λ why z. none))
+    (λ e. rw (head_taken n h (coherent_in_range n c) e) (word_angles_lem n h.word h.theta))
   where
     none : n ≡ nco_heard n []
     none = unfold nco_heard in refl

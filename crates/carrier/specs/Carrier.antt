@@ -1,5 +1,5 @@
 -- The carrier: document 01, "Slot sync and carrier", second paragraph, and `Nco` of chain/sync.rs.
-use Rattle.std.specs.Prelude.{ℕ, ◌+◌, true, false, List, ltb, ℤ, pos, ◌+ℤ◌, ◌*ℤ◌}
+use Rattle.std.specs.Prelude.{ℕ, ◌+◌, true, false, List, ltb, ℤ, pos, ◌+ℤ◌, ◌*ℤ◌, Option, None, Some}
 use Rattle.laws.specs.Choice.{when◌then◌else◌, minus}
 use Rattle.fx.specs.Fx.{round_shift, clamp, round_index, cos_sin_at}
 use Rattle.angles.specs.Angles.{turned_by, turn_from, turned_back}
@@ -9,13 +9,11 @@ use Rattle.sync_heads.specs.declared.Word.{Word}
 use Rattle.sync_heads.specs.declared.Word.TheVariants.{Ssync, Fsync, NotFsync}
 use Rattle.carrier.specs.declared.Nco.{Nco}
 use Rattle.carrier.specs.declared.Steps.{Steps}
-use Rattle.carrier.specs.declared.Trail.{Trail}
-use Rattle.carrier.specs.declared.Trail.TheVariants.{Empty, Since}
 use Rattle.carrier.specs.declared.Heard.{Heard}
 
 -- a carrier that starts with this phase and step; a new one has phase 0, a restarted one the phase and step it had
 unfoldable pub started_nco : ℕ → ℤ → Nco
-started_nco phase freq = record { phase = phase; freq = freq; trail = Empty }
+started_nco phase freq = record { phase = phase; freq = freq; trail = None }
 
 -- "`Nco` uses its phase": the symbol times e^-jφ by the table's cosine and sine, rounded by 11 bits
 unfoldable pub rotated_of : List ℤ → ℕ → ℤ → ℤ → Symbol
@@ -30,6 +28,10 @@ advanced_nco n = record { phase = turned_by n.phase n.freq; freq = n.freq; trail
 unfoldable pub tuned : ℤ → ℤ → ℤ
 tuned freq sum = clamp (minus 524287) (pos 524287) (freq +ℤ round_shift (sum *ℤ pos 246412) 39)
 
+-- a trail that begins at an Ssync head of angle theta
+unfoldable pub since_head : ℕ → Steps
+since_head theta = record { last_ss = theta; sum = pos 0; steps = 0 }
+
 -- an Ssync head of angle theta after others: one more difference; "the 61st Ssync head after a restart makes 60 differences and sets the
 -- step; each 60 further Ssync heads do so again"
 unfoldable pub ssync_heard : Nco → Steps → ℕ → Heard
@@ -37,19 +39,19 @@ ssync_heard n s theta =
     let sum = s.sum +ℤ turn_from s.last_ss theta in
     let steps = s.steps + 1 in
     when ltb steps 60
-    then record { refusal = 0; nco = record { phase = n.phase; freq = n.freq; trail = Since (record { last_ss = theta; sum = sum; steps = steps }) }; set = false }
-    else record { refusal = 0; nco = record { phase = n.phase; freq = tuned n.freq sum; trail = Since (record { last_ss = theta; sum = pos 0; steps = 0 }) }; set = true }
+    then record { nco = record { phase = n.phase; freq = n.freq; trail = Some (record { last_ss = theta; sum = sum; steps = steps }) }; set = false }
+    else record { nco = record { phase = n.phase; freq = tuned n.freq sum; trail = Some (since_head theta) }; set = true }
 
 -- an Ssync head: the first after a restart makes no difference
-unfoldable pub trail_heard : Nco → Trail → ℕ → Heard
-trail_heard n Empty theta = record { refusal = 0; nco = record { phase = n.phase; freq = n.freq; trail = Since (record { last_ss = theta; sum = pos 0; steps = 0 }) }; set = false }
-trail_heard n (Since s) theta = ssync_heard n s theta
+unfoldable pub trail_heard : Nco → Option Steps → ℕ → Heard
+trail_heard n None theta = record { nco = record { phase = n.phase; freq = n.freq; trail = Some (since_head theta) }; set = false }
+trail_heard n (Some s) theta = ssync_heard n s theta
 
 -- a head of any word
 unfoldable pub word_heard : Nco → Word → ℕ → Heard
 word_heard n Ssync theta = trail_heard n n.trail theta
-word_heard n Fsync theta = record { refusal = 0; nco = n; set = false }
-word_heard n NotFsync theta = record { refusal = 0; nco = n; set = false }
+word_heard n Fsync theta = record { nco = n; set = false }
+word_heard n NotFsync theta = record { nco = n; set = false }
 
 unfoldable pub heard_of : Nco → Head → Heard
 heard_of n h = word_heard n h.word h.theta

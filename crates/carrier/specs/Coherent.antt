@@ -1,10 +1,8 @@
 -- What is true together of the numbers of a carrier that came from calls: docs/RANGES.md, under Carrier, what is told jointly.
-use Rattle.std.specs.Prelude.{◌-◌, ◌*◌, ◌^◌, ◌≤◌, pos, ◌≤ℤ◌}
+use Rattle.std.specs.Prelude.{◌-◌, ◌*◌, ◌^◌, ◌≤◌, pos, ◌≤ℤ◌, Option, None, Some}
 use Rattle.laws.specs.Choice.{minus}
 use Rattle.carrier.specs.declared.Nco.{Nco}
 use Rattle.carrier.specs.declared.Steps.{Steps}
-use Rattle.carrier.specs.declared.Trail.{Trail}
-use Rattle.carrier.specs.declared.Trail.TheVariants.{Empty, Since}
 
 pub record StepsFit (s : Steps) : Type 0 where
   -- the sixtieth sets
@@ -14,9 +12,9 @@ pub record StepsFit (s : Steps) : Type 0 where
   -- .. and at most 2^31 - 1
   pub high : s.sum ≤ℤ pos (s.steps * (2 ^ 31 - 1))
 
-abbrev pub TrailFits : Trail → Type 0
-TrailFits Empty = Unit {0}
-TrailFits (Since s) = StepsFit s
+abbrev pub TrailFits : Option Steps → Type 0
+TrailFits None = Unit {0}
+TrailFits (Some s) = StepsFit s
 
 -- phase and step may be any
 pub record Coherent (n : Nco) : Type 0 where

@@ -1,5 +1,5 @@
 -- Ssync heads one after another, by their angles.
-use Rattle.std.specs.Prelude.{Bool, ◌||◌, List, [], ◌∷◌, ◌++◌, ℕ, ◌^◌, leb, ℤ, pos, ◌+ℤ◌}
+use Rattle.std.specs.Prelude.{Bool, ◌||◌, List, [], ◌∷◌, ◌++◌, ℕ, ◌^◌, leb, ℤ, pos, ◌+ℤ◌, Some}
 use Rattle.laws.specs.Choice.{when◌then◌else◌}
 use Rattle.fx.specs.Answers.{wide}
 use Rattle.angles.specs.Angles.{turn_from}
@@ -7,7 +7,6 @@ use Rattle.sync_heads.specs.declared.Head.{Head}
 use Rattle.sync_heads.specs.declared.Word.{Word}
 use Rattle.sync_heads.specs.declared.Word.TheVariants.{Ssync, Fsync, NotFsync}
 use Rattle.carrier.specs.declared.Nco.{Nco}
-use Rattle.carrier.specs.declared.Trail.TheVariants.{Since}
 use Rattle.carrier.specs.Carrier.{word_heard}
 use Rattle.carrier.specs.Calls.{Call}
 use Rattle.carrier.specs.Calls.{rotate, hear, restart}
@@ -34,7 +33,7 @@ last_of last (theta ∷ rest) = last_of theta rest
 
 -- a carrier that has heard an Ssync head of angle `last`, and since then has no difference: it was its first, or it has set the step
 unfoldable pub since_nco : ℕ → ℤ → ℕ → Nco
-since_nco phase freq last = record { phase = phase; freq = freq; trail = Since (record { last_ss = last; sum = pos 0; steps = 0 }) }
+since_nco phase freq last = record { phase = phase; freq = freq; trail = Some (record { last_ss = last; sum = pos 0; steps = 0 }) }
 
 -- ---- the angles that calls let a carrier hear: those of the Ssync heads that are not refused
 unfoldable pub word_angles : Word → ℕ → List ℕ

@@ -9,6 +9,8 @@ ghost use Rattle.std.specs.Prelude.{◌≡◌};
 ghost use Rattle.carrier.specs.Carrier.{started_nco};
 ghost use Rattle.carrier.specs.Answers.{rotate_answer, head_answer, restart_answer};
 
+use angles::Symbol;
+use refusal::{Refusal, Refused};
 use sync_heads::Head;
 
 // The angle of the last Ssync head, and the differences since the last setting: their sum and their number.
@@ -19,40 +21,25 @@ pub struct Steps {
     pub steps: u32,
 }
 
-// The Ssync heads since the restart.
-#[derive(Clone, Copy)]
-pub enum Trail {
-    Empty,
-    Since(Steps),
-}
-
 #[derive(Clone, Copy)]
 pub struct Nco {
     pub phase: u32,
     pub freq: i32,
-    pub trail: Trail,
+    pub trail: Option<Steps>,
 }
 
+// The carrier after a symbol, and the symbol turned back.
 #[derive(Clone, Copy)]
 pub struct Rotated {
-    pub refusal: u8,
     pub nco: Nco,
-    pub i: i16,
-    pub q: i16,
+    pub symbol: Symbol,
 }
 
-// `set`: this head has set the step.
+// `set`: this head has set the step. No Option holds the carrier, which stands after every head.
 #[derive(Clone, Copy)]
 pub struct Heard {
-    pub refusal: u8,
     pub nco: Nco,
     pub set: bool,
-}
-
-#[derive(Clone, Copy)]
-pub struct Restarted {
-    pub refusal: u8,
-    pub nco: Nco,
 }
 
 // A carrier with a step, in 2^-32 turns a symbol, at phase 0.
@@ -63,54 +50,38 @@ pub fn new(freq: i32) -> Nco
 }
 
 // One symbol turned back by the phase, which then advances.
-pub fn rotate(n: Nco, xi: i8, xq: i8, table: &[i16]) -> Rotated
+pub fn rotate(n: Nco, xi: i8, xq: i8, table: &[i16]) -> Result<Rotated, Refused<Nco>>
     ensures { result ≡ rotate_answer n xi xq table.now }
 {
-    let k = refusals::rotate(n, table.len());
-    if k == 0 {
-        let x = ranged::rotated(table, n.phase, xi, xq);
-        Rotated {
-            refusal: 0,
+    match refusals::rotate(n, table.len()) {
+        Ok(()) => Ok(Rotated {
             nco: plain::advanced(n),
-            i: x.i,
-            q: x.q,
-        }
-    } else {
-        Rotated {
-            refusal: k,
-            nco: n,
-            i: 0,
-            q: 0,
-        }
+            symbol: ranged::rotated(table, n.phase, xi, xq),
+        }),
+        Err(why) => Err(Refused { why, state: n }),
     }
 }
 
 // A head: an Ssync head feeds the loop.
-pub fn head(n: Nco, h: Head) -> Heard
+pub fn head(n: Nco, h: Head) -> Result<Heard, Refused<Nco>>
     ensures { result ≡ head_answer n h }
 {
-    let k = refusals::head(n, h);
-    if k == 0 {
-        ranged::heard(n, h)
-    } else {
-        Heard {
-            refusal: k,
-            nco: n,
-            set: false,
-        }
+    match refusals::head(n, h) {
+        Ok(()) => Ok(ranged::heard(n, h)),
+        Err(why) => Err(Refused { why, state: n }),
     }
 }
 
 // The trail is dropped; phase and step are the signal's, and stay.
-pub fn restart(n: Nco) -> Restarted
+pub fn restart(n: Nco) -> Result<Nco, Refused<Nco>>
     ensures { result ≡ restart_answer n }
 {
     if plain::in_range(n) {
-        Restarted {
-            refusal: 0,
-            nco: plain::started(n.phase, n.freq),
-        }
+        Ok(plain::started(n.phase, n.freq))
     } else {
-        Restarted { refusal: 6, nco: n }
+        Err(Refused {
+            why: Refusal::Arithmetic,
+            state: n,
+        })
     }
 }

@@ -3,15 +3,15 @@ ghost use Rattle.std.specs.Prelude.{◌≡◌};
 ghost use Rattle.carrier.specs.Carrier.{started_nco, advanced_nco};
 ghost use Rattle.carrier.specs.Ranges.{steps_in_range, nco_in_range};
 
-use crate::{Nco, Steps, Trail};
+use crate::{Nco, Steps};
 
 pub fn started(phase: u32, freq: i32) -> Nco
     ensures { result ≡ started_nco phase freq }
 {
     Nco {
-        phase: phase,
-        freq: freq,
-        trail: Trail::Empty,
+        phase,
+        freq,
+        trail: None,
     }
 }
 
@@ -19,12 +19,9 @@ pub fn started(phase: u32, freq: i32) -> Nco
 pub fn advanced(n: Nco) -> Nco
     ensures { result ≡ advanced_nco n }
 {
-    let f = n.freq;
-    let t = n.trail;
     Nco {
-        phase: angles::ranged::turn_on(n.phase, f as i64),
-        freq: f,
-        trail: t,
+        phase: angles::ranged::turn_on(n.phase, n.freq as i64),
+        ..n
     }
 }
 
@@ -37,9 +34,8 @@ fn steps_in_range(s: Steps) -> bool
 pub(crate) fn in_range(n: Nco) -> bool
     ensures { result ≡ nco_in_range n }
 {
-    let t = n.trail;
-    match t {
-        Trail::Empty => true,
-        Trail::Since(s) => steps_in_range(s),
+    match n.trail {
+        None => true,
+        Some(s) => steps_in_range(s),
     }
 }

@@ -1,9 +1,9 @@
 // For the entries and the receiver, which prove the ranges.
-ghost use Rattle.std.specs.Prelude.{◌≡◌, ◌+◌, ◌≤◌, ◌^◌, nat_abs, length};
-ghost use Rattle.carrier.specs.Carrier.{rotated_of, tuned, ssync_heard, trail_heard, heard_of};
+ghost use Rattle.std.specs.Prelude.{◌≡◌, ◌+◌, ◌≤◌, ◌^◌, nat_abs, length, Some};
+ghost use Rattle.carrier.specs.Carrier.{rotated_of, tuned, since_head, ssync_heard, trail_heard, heard_of};
 ghost use Rattle.carrier.specs.Ranges.{StepsOk, NcoOk};
 
-use crate::{Heard, Nco, Steps, Trail};
+use crate::{Heard, Nco, Steps};
 use angles::Symbol;
 use sync_heads::{Head, Word};
 
@@ -14,11 +14,9 @@ pub fn rotated(table: &[i16], phase: u32, xi: i8, xq: i8) -> Symbol
 {
     let p = fx::ranged::cos_sin_round(table, phase);
     let r = angles::ranged::turn_back(p, xi as i64, xq as i64, 11);
-    let i = r.re;
-    let q = r.im;
     Symbol {
-        i: i as i16,
-        q: q as i16,
+        i: r.re as i16,
+        q: r.im as i16,
     }
 }
 
@@ -37,6 +35,17 @@ fn tune(freq: i32, sum: i64) -> i32
     }
 }
 
+// The trail that an Ssync head of angle theta begins, which no difference follows yet.
+fn since(theta: u32) -> Option<Steps>
+    ensures { result ≡ Some (since_head theta) }
+{
+    Some(Steps {
+        last_ss: theta,
+        sum: 0,
+        steps: 0,
+    })
+}
+
 // One more difference, and the setting if it is the sixtieth.
 fn another(n: Nco, s: Steps, theta: u32) -> Heard
     requires { StepsOk s }
@@ -45,30 +54,21 @@ fn another(n: Nco, s: Steps, theta: u32) -> Heard
     let sum = s.sum + angles::plain::turn_from(s.last_ss, theta);
     let steps = s.steps + 1;
     if steps < 60 {
+        let trail = Some(Steps {
+            last_ss: theta,
+            sum,
+            steps,
+        });
         Heard {
-            refusal: 0,
-            nco: Nco {
-                phase: n.phase,
-                freq: n.freq,
-                trail: Trail::Since(Steps {
-                    last_ss: theta,
-                    sum: sum,
-                    steps: steps,
-                }),
-            },
+            nco: Nco { trail, ..n },
             set: false,
         }
     } else {
         Heard {
-            refusal: 0,
             nco: Nco {
-                phase: n.phase,
                 freq: tune(n.freq, sum),
-                trail: Trail::Since(Steps {
-                    last_ss: theta,
-                    sum: 0,
-                    steps: 0,
-                }),
+                trail: since(theta),
+                ..n
             },
             set: true,
         }
@@ -80,22 +80,15 @@ fn ssync(n: Nco, theta: u32) -> Heard
     requires { NcoOk n }
     ensures { result ≡ trail_heard n n.trail theta }
 {
-    let t = n.trail;
-    match t {
-        Trail::Empty => Heard {
-            refusal: 0,
+    match n.trail {
+        None => Heard {
             nco: Nco {
-                phase: n.phase,
-                freq: n.freq,
-                trail: Trail::Since(Steps {
-                    last_ss: theta,
-                    sum: 0,
-                    steps: 0,
-                }),
+                trail: since(theta),
+                ..n
             },
             set: false,
         },
-        Trail::Since(s) => another(n, s, theta),
+        Some(s) => another(n, s, theta),
     }
 }
 
@@ -103,18 +96,8 @@ pub fn heard(n: Nco, h: Head) -> Heard
     requires { NcoOk n }
     ensures { result ≡ heard_of n h }
 {
-    let w = h.word;
-    match w {
+    match h.word {
         Word::Ssync => ssync(n, h.theta),
-        Word::Fsync => Heard {
-            refusal: 0,
-            nco: n,
-            set: false,
-        },
-        Word::NotFsync => Heard {
-            refusal: 0,
-            nco: n,
-            set: false,
-        },
+        Word::Fsync | Word::NotFsync => Heard { nco: n, set: false },
     }
 }

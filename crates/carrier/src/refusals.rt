@@ -3,30 +3,27 @@ ghost use Rattle.std.specs.Prelude.{◌≡◌};
 ghost use Rattle.carrier.specs.Answers.{rotate_refusal, head_refusal};
 
 use crate::{Nco, plain};
-use sync_heads::Head;
+use refusal::Refusal;
+use sync_heads::{Head, given};
 
-pub(crate) fn rotate(n: Nco, len: usize) -> u8
+pub(crate) fn rotate(n: Nco, len: usize) -> Result<(), Refusal>
     ensures { result ≡ rotate_refusal n len }
 {
-    if len == 1024 {
-        if plain::in_range(n) { 0 } else { 6 }
+    if len != 1024 {
+        return Err(Refusal::Table);
+    }
+    if plain::in_range(n) {
+        Ok(())
     } else {
-        3
+        Err(Refusal::Arithmetic)
     }
 }
 
-pub(crate) fn head(n: Nco, h: Head) -> u8
+pub(crate) fn head(n: Nco, h: Head) -> Result<(), Refusal>
     ensures { result ≡ head_refusal n h }
 {
-    if plain::in_range(n) {
-        if fx::plain::wide(h.amp) {
-            6
-        } else if 0x4000_0000_0000_0000 <= h.at {
-            7
-        } else {
-            0
-        }
-    } else {
-        6
+    if !plain::in_range(n) {
+        return Err(Refusal::Arithmetic);
     }
+    given::head(h)
 }

@@ -1,12 +1,13 @@
 -- What the definitions of demap mean. Each statement stands above its proof; the parts that are long are in Distances, Softs and Labels. The
 -- number of bits is left open throughout. Assumes nothing.
+use Rattle.std.specs.Prelude.{Ok}
 use mathlib.Core.Bool.{false}
-use mathlib.Core.List.{List, ◌++◌}
+use mathlib.Core.List.{List}
 use mathlib.Core.Path.{◌≡◌, refl}
 use Prim.Native.Nat.{ℕ, ◌+◌, ◌-◌, ◌*◌, ◌/◌, ◌^◌, ◌≤◌, ◌<◌, zero-le}
 use native.Mathlib.Nat.{le_refl, le_of_suc-le-suc, div-lt_iff_lt-mul}
 use native.Mathlib.Omega.{arith}
-use borrow.Author.Tests.{eq-eqb, ltb-false}
+use borrow.Author.Tests.{ltb-false}
 use lib.IntN.{ℤ, pos, negsuc, nat_abs, ◌+ℤ◌, ◌-ℤ◌, ◌*ℤ◌}
 use lib.ListN.{length, get_or, drop}
 use lib.Pow.{pow_pos}
@@ -17,14 +18,14 @@ use Rattle.laws.proofs.Least.{least_le, least_hit}
 use Rattle.laws.proofs.Linear.{dif_ud, ud_le, le_ud, size_le, test_le}
 use Rattle.laws.proofs.Lists.{getD-firsts}
 use Rattle.laws.proofs.Tests.{never, if_either}
-use Rattle.laws.specs.Choice.{minus, if_yes}
+use Rattle.laws.specs.Choice.{minus}
 use Rattle.demap.proofs.Accepted.{accepted, block_accepted}
 use Rattle.demap.proofs.Blocks.{block_at}
 use Rattle.demap.proofs.Distances.{metric_parts, metric_low, metric_high}
 use Rattle.demap.proofs.Labels.{bit_is_zero, bit_is_one, lowest_is}
 use Rattle.demap.proofs.Softs.{soft_up, gap_above, gap_below}
 use Rattle.demap.specs.Answers.{demap_refusal, demap_buffer, block_refusal, block_buffer}
-use Rattle.demap.specs.Demap.{squared_size, squared_distance, metric_of, label_metric, label_distance, Nearest, every, least_metric, lowest_label, bit_of, gap_of, soft_of, soft_at, soft_bits, symbol_metric, block_bits, scale_of}
+use Rattle.demap.specs.Demap.{squared_size, squared_distance, metric_of, label_metric, label_distance, Nearest, every, least_metric, lowest_label, bit_of, gap_of, soft_of, soft_at, soft_bits, symbol_metric, scale_of}
 
 -- ---- THE METRIC is the squared distance less |y|², and |p|² less twice y · p
 pub metric_theorem : (yi yq pi pq : ℤ) →
@@ -103,30 +104,26 @@ bits_theorem yi yq points bits k z j h =
     }
 
 -- ---- OF A SINGLE DEMAP that is taken, each value that it leaves in the buffer
-pub demap_theorem : (yi yq : ℤ) (points : List ℤ) (bits : ℕ) (k : ℤ) (out : List ℤ) → demap_refusal bits (length points) k (length out) ≡ 0 →
+pub demap_theorem : (yi yq : ℤ) (points : List ℤ) (bits : ℕ) (k : ℤ) (out : List ℤ) → demap_refusal bits (length points) k (length out) ≡ Ok tt →
     (j : ℕ) → j < bits → Tells yi yq points bits j (get_or (demap_buffer yi yq points bits k out) j (pos 0))
 unfolding demap_buffer soft_bits
 demap_theorem yi yq points bits k out e j h =
     let f = label_metric yi yq points in
     let a = accepted bits (length points) k (length out) e in
     let z : pos 0 ≤ℤ k = le_ud (pos 0) k (test_le k (pos 0) a.not_below) in
-    let n = eq-eqb (demap_refusal bits (length points) k (length out)) 0 e in
-    rw (if_yes _ (soft_bits f bits k ++ drop bits out) out n, getD-firsts (soft_at f bits k) (pos 0) bits (drop bits out) j h)
+    rw (e, getD-firsts (soft_at f bits k) (pos 0) bits (drop bits out) j h)
     (bits_theorem yi yq points bits k z j h)
 
 -- ---- OF A BLOCK that is taken, each value of symbol s
 pub block_theorem : (sy points : List ℤ) (bits : ℕ) (k : ℤ) (out : List ℤ) →
-    block_refusal (length sy / 2) bits (length points) k (length out) ≡ 0 → (s j : ℕ) → s < length sy / 2 → j < bits →
+    block_refusal (length sy / 2) bits (length points) k (length out) ≡ Ok tt → (s j : ℕ) → s < length sy / 2 → j < bits →
     Tells (get_or sy (2 * s) (pos 0)) (get_or sy (2 * s + 1) (pos 0)) points bits j (get_or (block_buffer sy points bits k out) (s * bits + j) (pos 0))
 unfolding block_buffer symbol_metric
 block_theorem sy points bits k out e s j h q =
     let n = length sy / 2 in
     let a = block_accepted n bits (length points) k (length out) e in
     let z : pos 0 ≤ℤ k = le_ud (pos 0) k (test_le k (pos 0) a.1.not_below) in
-    rw (
-      if_yes _ (block_bits sy points bits k n ++ drop (n * bits) out) out (eq-eqb (block_refusal n bits (length points) k (length out)) 0 e),
-      block_at sy points bits k n (drop (n * bits) out) s j h q,
-    )
+    rw (e, block_at sy points bits k n (drop (n * bits) out) s j h q)
     (bits_theorem (get_or sy (2 * s) (pos 0)) (get_or sy (2 * s + 1) (pos 0)) points bits k z j q)
 
 -- ---- THE SCALE lies in 0 .. 2^24, so no answer of `scale_of` is refused as a k

@@ -20,14 +20,12 @@ fn level(m: &mut [i64; 32], half: usize, k: i64) -> i8
 {
     let mut a = m[0];
     let mut b = m[half];
-    let mut t: usize = 0;
-    while t < half {
+    for t in 0..half {
         let x = m[t];
         let y = m[half + t];
         a = lesser(a, x);
         b = lesser(b, y);
         m[t] = lesser(x, y);
-        t += 1;
     }
     ranged::soft(b - a, k)
 }
@@ -37,9 +35,7 @@ pub(crate) fn all_levels(m: &mut [i64; 32], bits: usize, k: i64, out: &mut [i8])
     requires { (0 < bits) × (bits ≤ 5) × (bits ≤ length out.old) × (nat_abs k ≤ 2 ^ 24) × (length m.old ≡ 32) × ((l : ℕ) → l < 2 ^ bits → Small (entry m.old l)) }
     ensures { (result ≡ least_metric (entry m.old) (2 ^ bits)) × (out.new ≡ soft_bits (entry m.old) bits k ++ drop bits out.old) }
 {
-    let mut b: usize = 5;
-    while 0 < b {
-        b -= 1;
+    for b in (0usize..5).rev() {
         if b < bits {
             out[bits - 1 - b] = level(m, 1usize << (b as u32), k);
         }

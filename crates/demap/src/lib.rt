@@ -11,12 +11,7 @@ ghost use Rattle.std.specs.Prelude.{◌≡◌, ◌/◌, length};
 ghost use Rattle.demap.specs.Demap.{metric_of};
 ghost use Rattle.demap.specs.Answers.{demap_answer, demap_buffer, block_refusal, block_buffer, scale_answer};
 
-// The least metric.
-#[derive(Clone, Copy)]
-pub enum Demapped {
-    Least(i64),
-    Refused(u8),
-}
+use refusal::Refusal;
 
 // The squared distance of a symbol to a point, less |y|^2.
 pub fn metric(yi: i16, yq: i16, pi: i16, pq: i16) -> i64
@@ -26,36 +21,42 @@ pub fn metric(yi: i16, yq: i16, pi: i16, pq: i16) -> i64
 }
 
 // The soft bits of a symbol into out, from its start.
-pub fn demap(yi: i16, yq: i16, points: &[i16], bits: usize, k: i64, out: &mut [i8]) -> Demapped
+pub fn demap(
+    yi: i16,
+    yq: i16,
+    points: &[i16],
+    bits: usize,
+    k: i64,
+    out: &mut [i8],
+) -> Result<i64, Refusal>
     ensures { (result ≡ demap_answer yi yq points.now bits k out.old) × (out.new ≡ demap_buffer yi yq points.now bits k out.old) }
 {
-    let n = refusals::single(bits, points.len(), k, out.len());
-    if n == 0 {
-        Demapped::Least(ranged::one(yi, yq, points, bits, k, out))
-    } else {
-        Demapped::Refused(n)
-    }
+    refusals::single(bits, points.len(), k, out.len())?;
+    Ok(ranged::one(yi, yq, points, bits, k, out))
 }
 
-// The soft bits of each symbol of a slice; 0, or why not.
-pub fn demap_block(sy: &[i16], points: &[i16], bits: usize, k: i64, out: &mut [i8]) -> u8
+// The soft bits of each symbol of a slice.
+pub fn demap_block(
+    sy: &[i16],
+    points: &[i16],
+    bits: usize,
+    k: i64,
+    out: &mut [i8],
+) -> Result<(), Refusal>
     ensures { (result ≡ block_refusal (length sy.now / 2) bits (length points.now) k (length out.old)) × (out.new ≡ block_buffer sy.now points.now bits k out.old) }
 {
-    let n = refusals::block(sy.len() / 2, bits, points.len(), k, out.len());
-    if n != 0 {
-        return n;
-    }
+    refusals::block(sy.len() / 2, bits, points.len(), k, out.len())?;
     ranged::block(sy, points, bits, k, out);
-    0
+    Ok(())
 }
 
 // The scale of noise n0.
-pub fn scale_of(n0: i64) -> fx::Whole
+pub fn scale_of(n0: i64) -> Result<i64, Refusal>
     ensures { result ≡ scale_answer n0 }
 {
     if fx::plain::wide(n0) {
-        fx::Whole::Refused(6)
+        Err(Refusal::Arithmetic)
     } else {
-        fx::Whole::Value(ranged::scale(n0))
+        Ok(ranged::scale(n0))
     }
 }

@@ -28,12 +28,10 @@ pub fn block(sy: &[i16], points: &[i16], bits: usize, k: i64, out: &mut [i8])
     ensures { out.new ≡ block_bits sy.now points.now bits k (length sy.now / 2) ++ drop (length sy.now / 2 * bits) out.old }
 {
     let n = sy.len() / 2;
-    let mut s: usize = 0;
-    while s < n {
+    for s in 0..n {
         let o = s * bits;
         let e = o + bits;
         one(sy[2 * s], sy[2 * s + 1], points, bits, k, &mut out[o..e]);
-        s += 1;
     }
 }
 
@@ -45,12 +43,9 @@ pub(crate) fn lowest_label(yi: i16, yq: i16, points: &[i16], n: usize, v: i64) -
 {
     let ti = 2 * (yi as i64);
     let tq = 2 * (yq as i64);
-    let mut i: usize = 0;
-    while i < n {
+    for i in 0..n {
         let m = table::by_twice(ti, tq, points[2 * i], points[2 * i + 1]);
-        if v < m {
-            i += 1;
-        } else {
+        if m <= v {
             return i;
         }
     }

@@ -18,10 +18,8 @@ fn more_metrics(m: &mut [i64; 32], points: &[i16], ti: i64, tq: i64, a: usize, n
     requires { (a ≤ n) × (n ≤ 32) × (2 * n ≤ length points.now) × (nat_abs ti ≤ 2 ^ 16) × (nat_abs tq ≤ 2 ^ 16) × (length m.old ≡ 32) × Holds (label_by_twice ti tq points.now) a m.old }
     ensures { (length m.new ≡ 32) × Holds (label_by_twice ti tq points.now) n m.new }
 {
-    let mut i: usize = a;
-    while i < n {
+    for i in a..n {
         m[i] = by_twice(ti, tq, points[2 * i], points[2 * i + 1]);
-        i += 1;
     }
 }
 
@@ -33,12 +31,10 @@ pub(crate) fn all_metrics(m: &mut [i64; 32], yi: i16, yq: i16, points: &[i16], b
     let ti = 2 * (yi as i64);
     let tq = 2 * (yq as i64);
     more_metrics(m, points, ti, tq, 0, 1);
-    let mut b: usize = 0;
-    while b < 5 {
+    for b in 0..5 {
         if b < bits {
             let h = 1usize << (b as u32);
             more_metrics(m, points, ti, tq, h, 2 * h);
         }
-        b += 1;
     }
 }

@@ -2,6 +2,7 @@
 #![tactic(auto)]
 
 ghost use Rattle.std.specs.Prelude.{◌≡◌, ◌/◌, length};
+ghost use Rattle.refusal.specs.Refusals.{code_of};
 ghost use Rattle.demap.specs.Answers.{block_refusal, block_buffer};
 
 #[unsafe(no_mangle)]
@@ -12,7 +13,7 @@ pub extern "C" fn measure_demap(
     k: i64,
     out: &mut [i8],
 ) -> u8
-    ensures { (result ≡ block_refusal (length sy.now / 2) bits (length points.now) k (length out.old)) × (out.new ≡ block_buffer sy.now points.now bits k out.old) }
+    ensures { (result ≡ code_of (block_refusal (length sy.now / 2) bits (length points.now) k (length out.old))) × (out.new ≡ block_buffer sy.now points.now bits k out.old) }
 {
-    demap::demap_block(sy, points, bits, k, out)
+    refusal::code(&demap::demap_block(sy, points, bits, k, out))
 }

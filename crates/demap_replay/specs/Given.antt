@@ -1,10 +1,8 @@
 -- States as calls put them together.
-use Rattle.std.specs.Prelude.{ℕ, List, [], ◌∷◌, eqb, ltb, ℤ, set}
+use Rattle.std.specs.Prelude.{ℕ, List, [], ◌∷◌, eqb, ltb, ℤ, set, Option, None, Some}
 use Rattle.laws.specs.Choice.{when◌then◌else◌}
 use Rattle.learn.specs.declared.Learn.{Learn}
 use Rattle.in_force.specs.declared.InForce.{InForce}
-use Rattle.in_force.specs.declared.Source.{Source}
-use Rattle.in_force.specs.declared.Source.TheVariants.{Never, Frame}
 use Rattle.fields.specs.Fields.{at, at32, signed64, on}
 
 -- ---- a state of learning with another sum, another count, other noise
@@ -18,8 +16,8 @@ unfoldable pub noise_put : Learn → ℤ → ℕ → Learn
 noise_put l noise samples = record { sum = l.sum; count = l.count; noise = noise; samples = samples }
 
 -- ---- what is in force, numbers 1 to 9: five flags, noise figure, scale, whether there is a frame, its number
-unfoldable pub source_of : List ℕ → Source
-source_of p = when eqb (at p 8) 0 then Never else Frame (at32 p 9)
+unfoldable pub source_of : List ℕ → Option ℕ
+source_of p = when eqb (at p 8) 0 then None else Some (at32 p 9)
 
 unfoldable pub force_of : List ℕ → InForce
 force_of p =

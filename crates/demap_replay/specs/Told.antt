@@ -1,13 +1,12 @@
 -- Answers as 24 numbers: the refusal, the answer's numbers, and zeros behind them. A negative number is 2^64 more.
-use Rattle.std.specs.Prelude.{ℕ, ◌+◌, ◌*◌, false, List, [], ◌∷◌, ◌++◌, ltb, ℤ, pos, get_or, replicate}
+use Rattle.std.specs.Prelude.{ℕ, ◌+◌, ◌*◌, false, List, [], ◌∷◌, ◌++◌, ltb, ℤ, pos, get_or, replicate, Option, None, Some, Result, Ok, Err}
 use Rattle.laws.specs.Choice.{when◌then◌else◌}
+use Rattle.refusal.specs.Refusals.{number_of}
+use Rattle.refusal.specs.declared.Refused.{Refused}
+use Rattle.learn.specs.declared.Figured.{Figured}
 use Rattle.learn.specs.declared.Learn.{Learn}
-use Rattle.learn.specs.declared.Figure.{Figure}
-use Rattle.learn.specs.declared.Figure.TheVariants.{Value, None}
 use Rattle.learn.specs.Learning.{sum_at, count_at}
 use Rattle.in_force.specs.declared.InForce.{InForce}
-use Rattle.in_force.specs.declared.Source.{Source}
-use Rattle.in_force.specs.declared.Source.TheVariants.{Never, Frame}
 use Rattle.wire.specs.Wire.{bits}
 use Rattle.fields.specs.Fields.{flag_of}
 
@@ -29,18 +28,22 @@ soft_told refusal o s =
     else single_told 255 0 0
 
 -- ---- a noise figure: whether there is one, and it
-unfoldable pub figure_told : ℕ → Figure → List ℕ
-figure_told refusal (Value v) = single_told refusal 1 (bits v)
-figure_told refusal None = single_told refusal 0 0
+unfoldable pub figure_told : Option ℤ → List ℕ
+figure_told (Some v) = single_told 0 1 (bits v)
+figure_told None = single_told 0 0 0
+
+abbrev pub figured_told : Result Figured (Refused Learn) → List ℕ
+figured_told (Ok figured) = figure_told figured.figure
+figured_told (Err refused) = single_told (number_of refused.why) 0 0
 
 -- ---- what is in force: five flags, noise figure, scale, whether there is a frame, its number
-unfoldable pub known_of : Source → ℕ
-known_of Never = 0
-known_of (Frame n) = 1
+unfoldable pub known_of : Option ℕ → ℕ
+known_of None = 0
+known_of (Some n) = 1
 
-unfoldable pub frame_of : Source → ℕ
-frame_of Never = 0
-frame_of (Frame n) = n
+unfoldable pub frame_of : Option ℕ → ℕ
+frame_of None = 0
+frame_of (Some n) = n
 
 abbrev pub flag_at : InForce → ℕ → ℕ
 flag_at f b = flag_of (get_or f.learned b false)

@@ -12,8 +12,8 @@ fn read<'a>(op: u64, k: Kept, p: &[u64; 24], learned: &'a [i16], nominal: &'a [i
     ensures { result ≡ read_of op p.now (desk k learned.now nominal.now) }
 {
     match op {
-        12 => told::single(0, digest::of_i16(learned), 0),
-        13 => told::single(0, digest::of_i16(nominal), 0),
+        12 => told::single(0, digest::of(learned), 0),
+        13 => told::single(0, digest::of(nominal), 0),
         14 => calls::part(k, p, learned, nominal),
         15 => calls::label(k, p),
         16 => {
@@ -86,6 +86,6 @@ pub(crate) fn replace(
     let t = turn(p[0], k, &p, learned, nominal);
     let a = t.told;
     let bytes = wire::packed(&a);
-    wire::streams::put(&bytes, buf, at);
+    wire::ranged::put(&bytes, buf, at);
     t.kept
 }

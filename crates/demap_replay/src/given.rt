@@ -2,67 +2,47 @@
 ghost use Rattle.std.specs.Prelude.{◌≡◌};
 ghost use Rattle.demap_replay.specs.Given.{sum_put, count_put, noise_put, source_of, force_of};
 
-use in_force::{InForce, Source};
+use in_force::InForce;
 use learn::Learn;
+use wire::Field;
 
 // Another sum k, if there is one.
-pub(crate) fn sum_put(l: Learn, k: u64, v: i64) -> Learn
+pub(crate) fn sum_put(mut l: Learn, k: u64, v: i64) -> Learn
     ensures { result ≡ sum_put l k v }
 {
     if k < 124 {
-        let mut s = l.sum;
-        let c = l.count;
-        s[k as usize] = v;
-        Learn {
-            sum: s,
-            count: c,
-            noise: l.noise,
-            samples: l.samples,
-        }
-    } else {
-        l
+        l.sum[k as usize] = v;
     }
+    l
 }
 
 // Another count k, if there is one.
-pub(crate) fn count_put(l: Learn, k: u64, v: u32) -> Learn
+pub(crate) fn count_put(mut l: Learn, k: u64, v: u32) -> Learn
     ensures { result ≡ count_put l k v }
 {
     if k < 62 {
-        let s = l.sum;
-        let mut c = l.count;
-        c[k as usize] = v;
-        Learn {
-            sum: s,
-            count: c,
-            noise: l.noise,
-            samples: l.samples,
-        }
-    } else {
-        l
+        l.count[k as usize] = v;
     }
+    l
 }
 
 pub(crate) fn noise_put(l: Learn, noise: i64, samples: u32) -> Learn
     ensures { result ≡ noise_put l noise samples }
 {
-    let s = l.sum;
-    let c = l.count;
     Learn {
-        sum: s,
-        count: c,
-        noise: noise,
-        samples: samples,
+        noise,
+        samples,
+        ..l
     }
 }
 
-fn source_at(p: &[u64; 24]) -> Source
+fn source_at(p: &[u64; 24]) -> Option<u32>
     ensures { result ≡ source_of p.now }
 {
     if p[8] == 0 {
-        Source::Never
+        None
     } else {
-        Source::Frame(wire::low32(p[9]))
+        Some(u32::of_bits(p[9]))
     }
 }
 
@@ -73,8 +53,8 @@ pub(crate) fn force_at(p: &[u64; 24]) -> InForce
     let s = source_at(p);
     InForce {
         learned: [p[1] != 0, p[2] != 0, p[3] != 0, p[4] != 0, p[5] != 0],
-        n0: wire::of_bits(p[6]),
-        k: wire::of_bits(p[7]),
+        n0: i64::of_bits(p[6]),
+        k: i64::of_bits(p[7]),
         from: s,
     }
 }

@@ -21,23 +21,18 @@ pub struct Turn {
 pub(crate) fn with_learn(k: Kept, l: Learn) -> Kept
     ensures { result ≡ with_learn k l }
 {
-    let f = k.force;
-    Kept { learn: l, force: f }
+    Kept { learn: l, ..k }
 }
 
 // Another constellation in force.
 pub(crate) fn with_force(k: Kept, f: InForce) -> Kept
     ensures { result ≡ with_force k f }
 {
-    let l = k.learn;
-    Kept { learn: l, force: f }
+    Kept { force: f, ..k }
 }
 
 pub(crate) fn turned(k: Kept, told: [u64; 24]) -> Turn
     ensures { result ≡ turned k told }
 {
-    Turn {
-        kept: k,
-        told: told,
-    }
+    Turn { kept: k, told }
 }

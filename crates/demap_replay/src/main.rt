@@ -20,14 +20,6 @@ use std::io::Write;
 // 256 calls.
 const BLOCK: usize = 49152;
 
-// What a block of input leaves to do.
-#[derive(Clone, Copy)]
-enum Next {
-    Block,
-    Nothing,
-    Short,
-}
-
 // Each call of the first n replaced by its answer.
 fn replay(k: Kept, buf: &mut [u8], n: usize, learned: &mut [i16], nominal: &mut [i16]) -> Kept
     requires { 192 * n ≤ length buf.old }
@@ -35,77 +27,10 @@ fn replay(k: Kept, buf: &mut [u8], n: usize, learned: &mut [i16], nominal: &mut 
         × (desk result learned.new nominal.new ≡ left_of (desk k learned.old nominal.old) n buf.old) }
 {
     let mut s = k;
-    let mut i: usize = 0;
-    while i < n {
+    for i in 0..n {
         s = call::replace(s, buf, 192 * i, learned, nominal);
-        i += 1;
     }
     s
-}
-
-// The states after a block, and what is to be done.
-#[derive(Clone, Copy)]
-struct Left {
-    kept: Kept,
-    next: Next,
-}
-
-fn next_of(got: usize, whole: usize, all: usize) -> Next {
-    if whole < got {
-        Next::Short
-    } else if got < all {
-        Next::Nothing
-    } else {
-        Next::Block
-    }
-}
-
-// Reads a block of calls and writes their answers.
-fn block(
-    rt: &HostRuntime,
-    k: Kept,
-    buf: &mut [u8],
-    learned: &mut [i16],
-    nominal: &mut [i16],
-) -> io::Result<Left> {
-    let got = wire::streams::read_full(&mut rt.stdin(), buf)?;
-    let n = got / 192;
-    let whole = 192 * n;
-    let s = replay(k, buf, n, learned, nominal);
-    rt.stdout().write_all(&buf[..whole])?;
-    Ok(Left {
-        kept: s,
-        next: next_of(got, whole, buf.len()),
-    })
-}
-
-// A proved loop has to end, and nothing says that the input does: the turns are counted down from a number that no run uses up.
-fn blocks(
-    rt: &HostRuntime,
-    k: Kept,
-    buf: &mut [u8],
-    learned: &mut [i16],
-    nominal: &mut [i16],
-) -> io::Result<()> {
-    let mut s = k;
-    let mut turns = u64::MAX;
-    while 0 < turns {
-        let l = block(rt, s, buf, learned, nominal)?;
-        s = l.kept;
-        let n = l.next;
-        match n {
-            Next::Block => {
-                turns -= 1;
-            }
-            Next::Nothing => {
-                return Ok(());
-            }
-            Next::Short => {
-                return rt.stderr().write_all(b"the input ends within a call\n");
-            }
-        }
-    }
-    Ok(())
 }
 
 // A read or a write that fails ends the replay with its error.
@@ -115,6 +40,10 @@ fn main(rt: HostRuntime) -> io::Result<()> {
     let mut buf = [0u8; BLOCK];
     let l = learn::new();
     let f = in_force::default();
-    let k = Kept { learn: l, force: f };
-    blocks(&rt, k, &mut buf, &mut learned, &mut nominal)
+    let mut k = Kept { learn: l, force: f };
+    wire::ranged::replay(&rt, &mut buf, 192, |calls: &mut [u8]| -> io::Result<()> {
+        let n = calls.len() / 192;
+        k = replay(k, calls, n, &mut learned, &mut nominal);
+        rt.stdout().write_all(calls)
+    })
 }

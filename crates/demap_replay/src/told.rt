@@ -3,8 +3,9 @@ ghost use Rattle.std.specs.Prelude.{◌≡◌, ◌<◌};
 ghost use Rattle.wire.specs.Wire.{bits};
 ghost use Rattle.demap_replay.specs.Told.{told, single_told, figure_told, known_of, frame_of, force_told, place_told, label_told, soft_told};
 
-use in_force::{InForce, Source};
-use learn::{Figure, Learn};
+use in_force::InForce;
+use learn::Learn;
+use wire::Field;
 
 fn told(refusal: u8, v: [u64; 9]) -> [u64; 24]
     ensures { result ≡ told refusal v }
@@ -47,7 +48,7 @@ pub(crate) fn single(refusal: u8, v: u64, w: u64) -> [u64; 24]
 fn bits8(v: i8) -> u64
     ensures { result ≡ bits v }
 {
-    wire::bits16(v as i16)
+    (v as i16).to_bits()
 }
 
 // Four soft values from o on, if there are.
@@ -70,30 +71,30 @@ pub(crate) fn soft(refusal: u8, o: u64, s: &[i8; 41]) -> [u64; 24]
 }
 
 // A noise figure: whether there is one, and it.
-pub(crate) fn figure(refusal: u8, f: Figure) -> [u64; 24]
-    ensures { result ≡ figure_told refusal f }
+pub(crate) fn figure(f: Option<i64>) -> [u64; 24]
+    ensures { result ≡ figure_told f }
 {
     match f {
-        Figure::Value(v) => single(refusal, 1, wire::to_bits(v)),
-        Figure::None => single(refusal, 0, 0),
+        Some(v) => single(0, 1, v.to_bits()),
+        None => single(0, 0, 0),
     }
 }
 
-fn known(s: Source) -> u64
+fn known(s: Option<u32>) -> u64
     ensures { result ≡ known_of s }
 {
     match s {
-        Source::Never => 0,
-        Source::Frame(n) => 1,
+        None => 0,
+        Some(n) => 1,
     }
 }
 
-fn frame(s: Source) -> u64
+fn frame(s: Option<u32>) -> u64
     ensures { result ≡ frame_of s }
 {
     match s {
-        Source::Never => 0,
-        Source::Frame(n) => n as u64,
+        None => 0,
+        Some(n) => n as u64,
     }
 }
 
@@ -111,8 +112,8 @@ pub(crate) fn force(f: InForce) -> [u64; 24]
             fields::flag(b[2]),
             fields::flag(b[3]),
             fields::flag(b[4]),
-            wire::to_bits(f.n0),
-            wire::to_bits(f.k),
+            f.n0.to_bits(),
+            f.k.to_bits(),
             known(s),
             frame(s),
         ],
@@ -131,10 +132,10 @@ fn place(l: Learn, a: usize) -> [u64; 24]
     told(
         0,
         [
-            wire::to_bits(si),
-            wire::to_bits(sq),
+            si.to_bits(),
+            sq.to_bits(),
             c[a] as u64,
-            wire::to_bits(l.noise),
+            l.noise.to_bits(),
             l.samples as u64,
             0,
             0,

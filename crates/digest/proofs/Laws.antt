@@ -1,7 +1,7 @@
 -- Laws of the digests. Assumes nothing.
-use Rattle.std.proofs.Common.{◌≡◌, ℕ, ◌+◌, ◌*◌, ◌/◌, ◌%◌, ◌^◌, List, get_or, ℤ, pos, refl, ap, ◌∙◌, add-one, arith}
-use Rattle.wire.specs.Wire.{bits}
-use Rattle.digest.specs.Digest.{mixed_of, digest_to, naturals_to}
+use Rattle.std.proofs.Common.{◌≡◌, ℕ, ◌+◌, ◌*◌, ◌/◌, ◌%◌, ◌^◌, ◌<◌, List, length, get_or, refl, sym, ap, ◌∙◌, add-one, arith}
+use Rattle.std.proofs.lemmas.List.{get_or-map}
+use Rattle.digest.specs.Digest.{mixed_of, digest_to}
 
 -- ---- the product by halves
 wrapped : (a n q : ℕ) → (a % 2 ^ 64 + n) % 2 ^ 64 ≡ (a + n + 2 ^ 64 * q) % 2 ^ 64
@@ -16,18 +16,10 @@ halves d n =
     wrapped a n (h * 2654435761 / 2 ^ 32) ∙ ap (λ (x : ℕ). x % 2 ^ 64) e
 
 -- ---- one more entry
-pub digest_more : (l : List ℤ) (k d : ℕ) → d ≡ digest_to l k → mixed_of d (bits (get_or l k (pos 0))) ≡ digest_to l (k + 1)
+pub digest_more : {T : Type 0} (f : T → ℕ) (l : List T) (k d : ℕ) (v : T) → k < length l → v ≡ get_or l k v → d ≡ digest_to f l k → mixed_of d (f v) ≡ digest_to f l (k + 1)
 unfolding digest_to
-digest_more l k d e = rw (e, add-one k)
+digest_more f l k d v h g e = rw (e, add-one k) (ap (λ (x : ℕ). mixed_of (digest_to f l k) x) (ap f g ∙ sym (get_or-map f l k v 0 h)))
 
-pub digest_none : (l : List ℤ) → 0 ≡ digest_to l 0
+pub digest_none : {T : Type 0} (f : T → ℕ) (l : List T) → 0 ≡ digest_to f l 0
 unfolding digest_to
-digest_none l = refl
-
-pub naturals_more : (l : List ℕ) (k d : ℕ) → d ≡ naturals_to l k → mixed_of d (get_or l k 0) ≡ naturals_to l (k + 1)
-unfolding naturals_to
-naturals_more l k d e = rw (e, add-one k)
-
-pub naturals_none : (l : List ℕ) → 0 ≡ naturals_to l 0
-unfolding naturals_to
-naturals_none l = refl
+digest_none f l = refl

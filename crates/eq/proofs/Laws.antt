@@ -1,22 +1,19 @@
 -- The tests of an equaliser, and what a training that is not refused may rely on. Assumes nothing.
-use Prim.Native.Nat.{◌<◌, suc, ℕ}
+use Prim.Native.Nat.{◌<◌}
+use Rattle.std.specs.Prelude.{Ok}
+use Rattle.laws.proofs.Taken.{ok_no, ok_yes}
 use Rattle.eq_train.proofs.Theorems.{in_range_ok}
 use Rattle.eq_train.specs.Ranges.{sums_in_range}
 use Rattle.eq.specs.Answers.{train_refusal}
 use Rattle.eq.specs.Eq.{trains_eq}
 use Rattle.eq.specs.Ranges.{TrainOk, eq_in_range}
 use Rattle.eq.specs.declared.Equaliser.{Equaliser}
-use Rattle.laws.proofs.Tests.{and_both, by_test}
-use Rattle.laws.specs.Choice.{if_no, if_yes, when◌then◌else◌}
+use Rattle.laws.proofs.Tests.{and_both}
+use Rattle.laws.specs.Choice.{if_yes, when◌then◌else◌}
 use borrow.Author.Tests.{leb-false}
 use lib.Dec.{leb}
-use mathlib.Core.Bool.{Bool, ◌&&◌, false, true}
-use mathlib.Core.Path.{◌∙◌, ◌≡◌, refl, sym}
-use native.Mathlib.Omega.{arith}
-
-pub and_true : (t : Bool) → (t && true) ≡ t
-and_true true = refl
-and_true false = refl
+use mathlib.Core.Bool.{◌&&◌, true}
+use mathlib.Core.Path.{◌∙◌, ◌≡◌, sym}
 
 -- ---- what a number of the state in its range says
 pub few_symbols : (e : Equaliser) → eq_in_range e ≡ true → leb e.filled 11 ≡ true
@@ -28,27 +25,16 @@ unfolding eq_in_range
 open_sums e h o = sym (if_yes e.opened (sums_in_range e.sums) true o) ∙ (and_both (leb e.filled 11) (when e.opened then sums_in_range e.sums else true) h).1
 
 -- ---- no refusal: what is then known
-no : {X : Type 0} (n : ℕ) → suc n ≡ 0 → X
-no n e = absurd (omega (arith, e))
-
 pub record Taking (e : Equaliser) : Type 0 where
   pub ranged : eq_in_range e ≡ true
   pub room : trains_eq e ≡ true → e.sums.count < 4194304
 
-pub taking : (e : Equaliser) → train_refusal e ≡ 0 → Taking e
+pub taking : (e : Equaliser) → train_refusal e ≡ Ok tt → Taking e
 unfolding train_refusal
 taking e h =
-    let full = leb 4194304 e.sums.count in
-    let n8 : ℕ = when trains_eq e && full then 8 else 0 in
-    by_test (eq_in_range e)
-    (λ a. let h1 : n8 ≡ 0 = sym (if_yes (eq_in_range e) n8 6 a) ∙ h in
-    record {
-      ranged = a;
-      room = λ t. by_test full
-          (λ f. no 7 (sym (if_yes (trains_eq e && full) 8 0 (rw (t, f))) ∙ h1))
-          (λ f. leb-false 4194304 e.sums.count f);
-    })
-    (λ a. no 5 (sym (if_no (eq_in_range e) n8 6 a) ∙ h))
+    let r = ok_yes (eq_in_range e) _ _ h in
+    let f = (ok_no (trains_eq e && leb 4194304 e.sums.count) _ _ r.1).0 in
+    record { ranged = r.0; room = λ t. leb-false 4194304 e.sums.count (rw t at f) }
 
 pub train_ok : (e : Equaliser) → Taking e → TrainOk e
 unfolding trains_eq

@@ -10,11 +10,8 @@ pub fn trained(e: Equaliser, di: i16, dq: i16) -> Equaliser
     requires { TrainOk e }
     ensures { result ≡ trained_eq e di dq }
 {
-    let opened = e.opened;
-    if opened & (11 <= e.filled) {
-        let line = e.line;
-        let s = e.sums;
-        crate::plain::with_sums(e, true, eq_train::ranged::train(s, &line, di, dq))
+    if e.opened & (11 <= e.filled) {
+        crate::plain::with_sums(e, true, eq_train::ranged::train(e.sums, &e.line, di, dq))
     } else {
         e
     }

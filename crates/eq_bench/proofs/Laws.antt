@@ -1,14 +1,13 @@
 -- One more symbol of a block, one more training. Assumes nothing.
 use mathlib.Core.Bool.{true}
-use mathlib.Core.List.{List}
-use Rattle.laws.proofs.Tests.{and_both, by_test}
+use mathlib.Core.List.{List, [], ◌∷◌}
+use Rattle.laws.proofs.Tests.{and_both}
 use mathlib.Core.Path.{◌≡◌, refl, sym, ap, subst, ◌∙◌}
 use Prim.Native.Nat.{ℕ, zero, suc, ◌+◌, ◌*◌, ◌<◌}
 use native.Mathlib.Numerals.{add-one}
 use native.Mathlib.Nat.{not-suc-le-zero}
 use native.Mathlib.Omega.{arith}
-use borrow.Author.Tests.{eqb-true, eqb-false, leb-true}
-use lib.Dec.{eqb}
+use borrow.Author.Tests.{leb-true}
 use lib.IntN.{ℤ, pos, nat_abs}
 use lib.ListN.{length, get_or, set, length-take, get_or-replicate}
 use lib.Seq.{get_or-take}
@@ -92,13 +91,11 @@ pub trainable : (ys : List ℤ) (di dq : ℤ) (k : ℕ) (line : List ℤ) (s : S
 trainable ys di dq k line s l t = in_range_ok s (sound_in_range s t.sound) (omega (arith, t.count, l))
 
 -- ---- rows that are bytes
-below_in : (rows : List ℤ) (n : ℕ) → in_bytes rows n ≡ true → (j : ℕ) → j < n → in_byte (nth rows j) ≡ true
-unfolding in_bytes
-below_in rows zero h j l = absurd (not-suc-le-zero l)
-below_in rows (suc n) h j l =
-    let b = and_both (in_bytes rows n) (in_byte (nth rows n)) h in
-    by_test (eqb j n) (λ e. rw (eqb-true j n e) b.1) (λ e. below_in rows n b.0 j (omega (arith, eqb-false j n e, l)))
+below_in : (rows : List ℤ) → in_bytes rows ≡ true → (j : ℕ) → j < length rows → in_byte (nth rows j) ≡ true
+below_in [] h j l = absurd (not-suc-le-zero l)
+below_in (v ∷ rows) h zero l = (and_both (in_byte v) (in_bytes rows) h).0
+below_in (v ∷ rows) h (suc j) l = below_in rows (and_both (in_byte v) (in_bytes rows) h).1 j (omega arith)
 
-pub rows_bytes : (rows : List ℤ) → in_bytes rows 96 ≡ true → Bytes rows
+pub rows_bytes : (rows : List ℤ) → length rows ≡ 96 → in_bytes rows ≡ true → Bytes rows
 unfolding in_byte
-rows_bytes rows h = record { small = λ j l. leb-true (nat_abs (nth rows j)) 255 (below_in rows 96 h j l) }
+rows_bytes rows e h = record { small = λ j l. leb-true (nat_abs (nth rows j)) 255 (below_in rows h j (omega arith)) }

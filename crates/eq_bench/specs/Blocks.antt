@@ -1,5 +1,8 @@
 -- A block of filtered symbols, trainings on one line, a solve.
-use Rattle.std.specs.Prelude.{ℕ, zero, suc, ◌+◌, ◌*◌, ◌/◌, ◌<◌, ◌≡◌, List, Bool, true, ◌&&◌, ℤ, pos, nat_abs, length, get_or, set, leb}
+use Rattle.std.specs.Prelude.{ℕ, zero, suc, ◌+◌, ◌*◌, ◌/◌, ◌<◌, ◌≡◌, List, Bool, ◌&&◌, ℤ, pos, nat_abs, length, get_or, set, leb, Result, Ok, Err}
+use Rattle.std.specs.List.{list_all}
+use Rattle.refusal.specs.declared.Refusal.{Refusal}
+use Rattle.refusal.specs.Refusals.{number_of}
 use Rattle.std.specs.Int.{w16}
 use Rattle.std.proofs.Common.{SFits}
 use Rattle.laws.specs.Choice.{when◌then◌else◌}
@@ -7,6 +10,7 @@ use Rattle.eq_fir.specs.Fir.{line_after, no_line}
 use Rattle.eq_fir.specs.Rows.{output_by}
 use Rattle.eq_train.specs.Train.{nth, trained_sums}
 use Rattle.solve.specs.Answers.{solve_answer}
+use Rattle.solve.specs.Taps.{no_taps}
 use Rattle.sums.specs.Sums.{empty_sums}
 use Rattle.sums.specs.declared.Sums.{Sums}
 use Rattle.eq_bench.specs.declared.CSums.{CSums}
@@ -36,12 +40,11 @@ filtered_by rows ys (suc k) t = filtered_one rows ys k (filtered_by rows ys k t)
 unfoldable pub in_byte : ℤ → Bool
 in_byte v = leb (nat_abs v) 255
 
-unfoldable pub in_bytes : List ℤ → ℕ → Bool
-in_bytes rows zero = true
-in_bytes rows (suc k) = in_bytes rows k && in_byte (nth rows k)
+abbrev pub in_bytes : List ℤ → Bool
+in_bytes rows = list_all in_byte rows
 
 abbrev pub filters : List ℤ → List ℤ → List ℤ → Bool
-filters rows ys out = in_bytes rows 96 && leb (length ys) (length out)
+filters rows ys out = in_bytes rows && leb (length ys) (length out)
 
 unfoldable pub filtered_code : List ℤ → List ℤ → List ℤ → ℕ
 filtered_code rows ys out = when filters rows ys out then 1 else 0
@@ -50,8 +53,16 @@ unfoldable pub filtered_out : List ℤ → List ℤ → List ℤ → List ℤ
 filtered_out rows ys out = when filters rows ys out then (filtered_by rows ys (length ys / 2) (filtered no_line out)).out else out
 
 -- ---- a solve
+unfoldable pub sums_of : CSums → Sums
+sums_of c = record { frame = c.frame; count = c.count; r = c.r; p = c.p }
+
+-- the taps, or a refusal's number and zeros
+abbrev pub told_solved : Result (List ℤ) Refusal → CSolved
+told_solved (Ok taps) = record { refusal = 0; taps = taps }
+told_solved (Err why) = record { refusal = number_of why; taps = no_taps }
+
 unfoldable pub solved_of : CSums → CSolved
-solved_of c = let a = solve_answer (record { frame = c.frame; count = c.count; r = c.r; p = c.p }) in record { refusal = a.refusal; taps = a.taps }
+solved_of c = told_solved (solve_answer (sums_of c))
 
 -- ---- a training on the line after each symbol
 -- the line after the first n symbols of ys

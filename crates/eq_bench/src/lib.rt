@@ -4,7 +4,7 @@
 
 ghost use Rattle.std.specs.Prelude.{◌≡◌, ◌/◌, ◌≤◌, length};
 ghost use Rattle.eq_fir.specs.Rows.{Bytes, rows_of};
-ghost use Rattle.eq_bench.specs.Blocks.{filtered, filtered_by, in_byte, in_bytes, filtered_code, filtered_out, solved_of, trained_along, trained_c};
+ghost use Rattle.eq_bench.specs.Blocks.{across_c, filtered, filtered_by, in_byte, in_bytes, filtered_code, filtered_out, solved_of, sums_of, trained_along, trained_c};
 
 use sums::Sums;
 
@@ -36,21 +36,47 @@ pub struct CSolved {
     pub taps: [i16; 22],
 }
 
+impl From<CSums> for Sums {
+    ghost from_gives = { λ c s. s ≡ sums_of c };
+
+    fn from(c: CSums) -> Sums {
+        let r = c.r;
+        let p = c.p;
+        Sums {
+            frame: c.frame,
+            count: c.count,
+            r,
+            p,
+        }
+    }
+}
+
+impl From<Sums> for CSums {
+    ghost from_gives = { λ s c. c ≡ across_c s };
+
+    fn from(s: Sums) -> CSums {
+        let r = s.r;
+        let p = s.p;
+        CSums {
+            frame: s.frame,
+            count: s.count,
+            r,
+            p,
+        }
+    }
+}
+
 // Each symbol of ys through the line; its output into out. The rows come by a reference (docs/BENCHMARKS.md).
 fn filter_all(rows: &[i16; 96], line: &mut [i16; 22], ys: &[i16], out: &mut [i16])
     requires { Bytes rows.now × (length line.old ≡ 22) × (length ys.now ≤ length out.old) }
     ensures { filtered line.new out.new ≡ filtered_by rows.now ys.now (length ys.now / 2) (filtered line.old out.old) }
 {
     let m = ys.len() / 2;
-    let mut k: usize = 0;
-    while k < m {
+    for k in 0..m {
         eq_fir::ranged::shift(line, ys[2 * k], ys[2 * k + 1]);
         let z = eq_fir::ranged_rows::output(rows, line);
-        let i = z.i;
-        let q = z.q;
-        out[2 * k] = i;
-        out[2 * k + 1] = q;
-        k += 1;
+        out[2 * k] = z.i;
+        out[2 * k + 1] = z.q;
     }
 }
 
@@ -59,9 +85,9 @@ fn filter_all(rows: &[i16; 96], line: &mut [i16; 22], ys: &[i16], out: &mut [i16
 pub extern "C" fn measure_rows(taps: Line) -> Rows
     ensures { result.x ≡ rows_of taps.x }
 {
-    let t = taps.x;
-    let x = eq_fir::ranged_rows::rows(&t);
-    Rows { x: x }
+    Rows {
+        x: eq_fir::ranged_rows::rows(&taps.x),
+    }
 }
 
 fn in_byte(v: i16) -> bool
@@ -71,15 +97,9 @@ fn in_byte(v: i16) -> bool
 }
 
 fn all_in_byte(rows: &[i16; 96]) -> bool
-    ensures { result ≡ in_bytes rows.now 96 }
+    ensures { result ≡ in_bytes rows.now }
 {
-    let mut all = true;
-    let mut k: usize = 0;
-    while k < 96 {
-        all = all & in_byte(rows[k]);
-        k += 1;
-    }
-    all
+    rows.iter().all(|v| in_byte(*v))
 }
 
 // The symbols of ys through an empty line with the rows of taps, into out: 1; 0 and nothing done where the rows are none, or out is shorter.
@@ -101,18 +121,12 @@ pub extern "C" fn measure_filter(rows: &[i16; 96], ys: &[i16], out: &mut [i16]) 
 pub extern "C" fn measure_solve(c: CSums) -> CSolved
     ensures { result ≡ solved_of c }
 {
-    let r = c.r;
-    let p = c.p;
-    let a = solve::solve_sums(Sums {
-        frame: c.frame,
-        count: c.count,
-        r: r,
-        p: p,
-    });
-    let t = a.taps;
-    CSolved {
-        refusal: a.refusal,
-        taps: t,
+    match solve::solve_sums(Sums::from(c)) {
+        Ok(taps) => CSolved { refusal: 0, taps },
+        Err(why) => CSolved {
+            refusal: why.number(),
+            taps: [0i16; 22],
+        },
     }
 }
 
@@ -124,11 +138,9 @@ fn train_all(ys: &[i16], di: i16, dq: i16) -> Sums
     let m = ys.len() / 2;
     let mut line = [0i16; 22];
     let mut s = sums::new(0);
-    let mut k: usize = 0;
-    while k < m {
+    for k in 0..m {
         eq_fir::ranged::shift(&mut line, ys[2 * k], ys[2 * k + 1]);
         s = eq_train::ranged::train(s, &line, di, dq);
-        k += 1;
     }
     s
 }
@@ -139,21 +151,8 @@ pub extern "C" fn measure_train(ys: &[i16], di: i16, dq: i16) -> CSums
     ensures { result ≡ trained_c ys.now di dq }
 {
     if ys.len() / 2 <= 4194304 {
-        let s = train_all(ys, di, dq);
-        let r = s.r;
-        let p = s.p;
-        CSums {
-            frame: s.frame,
-            count: s.count,
-            r: r,
-            p: p,
-        }
+        CSums::from(train_all(ys, di, dq))
     } else {
-        CSums {
-            frame: 0,
-            count: 0,
-            r: [0i64; 132],
-            p: [0i64; 22],
-        }
+        CSums::from(sums::new(0))
     }
 }

@@ -1,8 +1,13 @@
 -- What each call answers and leaves, by the definitions of eq and solve.
-use Rattle.std.specs.Prelude.{ℕ, List}
+use Rattle.angles.specs.declared.Symbol.{Symbol}
+use Rattle.std.specs.Prelude.{ℕ, List, Option, None, Some, Result, Ok, Err, is_some}
+use Rattle.std.specs.Option.{unwrap_or}
+use Rattle.refusal.specs.declared.Refused.{Refused}
+use Rattle.refusal.specs.Refusals.{number_of}
+use Rattle.sums.specs.Sums.{empty_sums}
+use Rattle.eq.specs.declared.Closed.{Closed}
 use Rattle.eq.specs.declared.Equaliser.{Equaliser}
-use Rattle.eq.specs.declared.Equalised.{Equalised}
-use Rattle.eq.specs.declared.Equalised.TheVariants.{Nothing, Given}
+use Rattle.eq.specs.declared.Pushed.{Pushed}
 use Rattle.eq.specs.Eq.{new_eq, with_sums}
 use Rattle.eq.specs.Answers.{restart_answer, push_answer, output_answer, open_answer, train_answer, close_answer, load_answer}
 use Rattle.solve.specs.Answers.{solve_answer}
@@ -22,39 +27,49 @@ plain k refusal e = turned (with_eq k e) (told_of (with_eq k e) refusal 0 0 0)
 unfoldable pub new_call : Kept → Turn
 new_call k = plain k 0 new_eq
 
+-- a refusal and the equaliser as it was, or an equaliser
+unfoldable pub answer_call : Kept → Result Equaliser (Refused Equaliser) → Turn
+answer_call k (Ok e) = plain k 0 e
+answer_call k (Err x) = plain k (number_of x.why) x.state
+
 unfoldable pub restart_call : Kept → Turn
-restart_call k = let r = restart_answer k.eq in plain k r.refusal r.eq
+restart_call k = answer_call k (restart_answer k.eq)
 
 -- a symbol that there may be: 1 and its parts, or 0
-unfoldable pub symbol_told : Kept → ℕ → Equalised → List ℕ
-symbol_told k refusal Nothing = told_of k refusal 0 0 0
-symbol_told k refusal (Given z) = told_of k refusal 1 (bits z.i) (bits z.q)
+unfoldable pub symbol_told : Kept → Option Symbol → List ℕ
+symbol_told k None = told_of k 0 0 0 0
+symbol_told k (Some z) = told_of k 0 1 (bits z.i) (bits z.q)
+
+unfoldable pub symbol_call : Kept → Result Pushed (Refused Equaliser) → Turn
+symbol_call k (Ok x) = turned (with_eq k x.eq) (symbol_told (with_eq k x.eq) x.out)
+symbol_call k (Err x) = plain k (number_of x.why) x.state
 
 unfoldable pub push_call : Kept → List ℕ → Turn
-push_call k p =
-    let r = push_answer k.eq (signed16 p 1) (signed16 p 2) in
-    turned (with_eq k r.eq) (symbol_told (with_eq k r.eq) r.refusal r.out)
+push_call k p = symbol_call k (push_answer k.eq (signed16 p 1) (signed16 p 2))
 
 unfoldable pub output_call : Kept → Turn
-output_call k =
-    let r = output_answer k.eq in
-    turned (with_eq k r.eq) (symbol_told (with_eq k r.eq) r.refusal r.out)
+output_call k = symbol_call k (output_answer k.eq)
 
 unfoldable pub open_call : Kept → List ℕ → Turn
-open_call k p = let r = open_answer k.eq (at32 p 1) in plain k r.refusal r.eq
+open_call k p = answer_call k (open_answer k.eq (at32 p 1))
 
 unfoldable pub train_call : Kept → List ℕ → Turn
-train_call k p = let r = train_answer k.eq (signed16 p 1) (signed16 p 2) in plain k r.refusal r.eq
+train_call k p = answer_call k (train_answer k.eq (signed16 p 1) (signed16 p 2))
 
--- the sums that it answers are those to solve from now on
+-- the sums that it answers, or none, are those to solve from now on
+unfoldable pub closed_call : Result Closed (Refused Equaliser) → Turn
+closed_call (Ok x) =
+    let n : Kept = record { eq = x.eq; sums = unwrap_or x.sums (empty_sums 0) } in
+    turned n (told_of n 0 (flag_of (is_some x.sums)) 0 0)
+closed_call (Err x) =
+    let n : Kept = record { eq = x.state; sums = empty_sums 0 } in
+    turned n (told_of n (number_of x.why) 0 0 0)
+
 unfoldable pub close_call : Kept → Turn
-close_call k =
-    let r = close_answer k.eq in
-    let n = with_solver (with_eq k r.eq) r.sums in
-    turned n (told_of n r.refusal (flag_of r.ended) 0 0)
+close_call k = closed_call (close_answer k.eq)
 
 unfoldable pub load_call : Kept → List ℕ → Turn
-load_call k p = let r = load_answer k.eq (sixteens_of p) (at32 p 1) in plain k r.refusal r.eq
+load_call k p = answer_call k (load_answer k.eq (sixteens_of p) (at32 p 1))
 
 -- ---- an equaliser handed in
 unfoldable pub line_call : Kept → List ℕ → Turn
@@ -77,4 +92,4 @@ unfoldable pub keep_call : Kept → Turn
 keep_call k = plain (with_solver k k.eq.sums) 0 k.eq
 
 unfoldable pub solve_call : Kept → Turn
-solve_call k = let r = solve_answer k.sums in turned k (solved_told r.refusal r.taps)
+solve_call k = turned k (solved_told (solve_answer k.sums))

@@ -1,16 +1,15 @@
 -- What the numbers of a call hold, and states with parts replaced.
-use Rattle.std.specs.Prelude.{ℕ, ◌+◌, ◌/◌, ◌%◌, List, eqb, ℤ, pos, get_or}
+use Rattle.std.specs.Prelude.{ℕ, ◌/◌, ◌%◌, ◌^◌, List, eqb, ℤ, pos, get_or, Option, None, Some}
 use Rattle.laws.specs.Choice.{when◌then◌else◌}
 use Rattle.laws.specs.Ranges.{firsts}
 use Rattle.eq.specs.declared.Equaliser.{Equaliser}
-use Rattle.eq.specs.declared.TapsFrom.{TapsFrom}
-use Rattle.eq.specs.declared.TapsFrom.TheVariants.{Identity, Frame}
 use Rattle.sums.specs.declared.Sums.{Sums}
-use Rattle.fields.specs.Fields.{at, at32, signed64, on}
+use Rattle.wire.specs.Wire.{signed}
+use Rattle.fields.specs.Fields.{at, at32, parts_of, on}
 
 -- the 22 numbers from 2 on
-unfoldable pub wides_of : List ℕ → List ℤ
-wides_of p = firsts (λ k. signed64 p (k + 2)) 22
+abbrev pub wides_of : List ℕ → List ℤ
+wides_of p = parts_of (λ u. signed (2 ^ 63) u) p
 
 -- ---- an equaliser with another line, with other taps
 unfoldable pub line_put : Equaliser → List ℤ → Equaliser
@@ -20,8 +19,8 @@ unfoldable pub taps_put : Equaliser → List ℤ → Equaliser
 taps_put e taps = record { line = e.line; filled = e.filled; taps = taps; from = e.from; opened = e.opened; sums = e.sums }
 
 -- with other single numbers, 1 to 6: fill, whether the taps have a frame, that frame, whether sums are open, their frame, their count
-unfoldable pub from_of : List ℕ → TapsFrom
-from_of p = when eqb (at p 2) 0 then Identity else Frame (at32 p 3)
+unfoldable pub from_of : List ℕ → Option ℕ
+from_of p = when eqb (at p 2) 0 then None else Some (at32 p 3)
 
 unfoldable pub numbers_put : Equaliser → List ℕ → Equaliser
 numbers_put e p =

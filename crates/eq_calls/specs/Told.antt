@@ -1,21 +1,21 @@
 -- Answers as 24 numbers, zeros behind them. A negative number is 2^64 more.
-use Rattle.std.specs.Prelude.{ℕ, ◌-◌, List, [], ◌∷◌, ◌++◌, eqb, ltb, ℤ, pos, get_or, replicate}
+use Rattle.std.specs.Prelude.{ℕ, ◌-◌, List, [], ◌∷◌, ◌++◌, ◌&&◌, leb, ltb, ℤ, pos, get_or, replicate, Option, None, Some, Result, Ok, Err}
+use Rattle.refusal.specs.declared.Refusal.{Refusal}
+use Rattle.refusal.specs.Refusals.{number_of}
 use Rattle.laws.specs.Choice.{when◌then◌else◌}
 use Rattle.laws.specs.Ranges.{firsts}
-use Rattle.eq.specs.declared.TapsFrom.{TapsFrom}
-use Rattle.eq.specs.declared.TapsFrom.TheVariants.{Identity, Frame}
 use Rattle.sums.specs.declared.Sums.{Sums}
 use Rattle.wire.specs.Wire.{bits}
 use Rattle.digest.specs.Digest.{digest_of}
-use Rattle.fields.specs.Fields.{flag_of}
+use Rattle.fields.specs.Fields.{flag_of, four_told}
 use Rattle.eq_calls.specs.declared.kept.Kept.{Kept}
 use Rattle.eq_calls.specs.declared.told.From.{From}
 use Rattle.eq_calls.specs.declared.told.Digests.{Digests}
 
 -- the frame of taps: whether there is one, and its number
-unfoldable pub from_shown : TapsFrom → From
-from_shown Identity = record { known = 0; frame = 0 }
-from_shown (Frame n) = record { known = 1; frame = n }
+unfoldable pub from_shown : Option ℕ → From
+from_shown None = record { known = 0; frame = 0 }
+from_shown (Some n) = record { known = 1; frame = n }
 
 -- sums: their frame and count, and digests of their entries
 unfoldable pub sums_shown : Sums → Digests
@@ -49,12 +49,16 @@ told_of k refusal x y z =
     ∷ [])
     ++ replicate 6 0
 
--- ---- the taps of a solving: the refusal, and 22 numbers
+-- ---- the taps of a solving: 0, and 22 numbers; or the refusal
 unfoldable pub bits_at : List ℤ → ℕ → ℕ
 bits_at taps k = bits (get_or taps k (pos 0))
 
-unfoldable pub solved_at : ℕ → List ℤ → ℕ → ℕ
-solved_at refusal taps k = when eqb k 0 then refusal else when ltb k 23 then bits_at taps (k - 1) else 0
+unfoldable pub tap_at : List ℤ → ℕ → ℕ
+tap_at taps k = when leb 1 k && ltb k 23 then bits_at taps (k - 1) else 0
 
-unfoldable pub solved_told : ℕ → List ℤ → List ℕ
-solved_told refusal taps = firsts (solved_at refusal taps) 24
+unfoldable pub taps_told : List ℤ → List ℕ
+taps_told taps = firsts (tap_at taps) 24
+
+unfoldable pub solved_told : Result (List ℤ) Refusal → List ℕ
+solved_told (Ok taps) = taps_told taps
+solved_told (Err why) = four_told (number_of why) 0 0 0

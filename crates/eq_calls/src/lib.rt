@@ -15,8 +15,10 @@ use kept::{Kept, Turn};
 fn same(k: Kept, refusal: u8) -> Turn
     ensures { result ≡ same k refusal }
 {
-    let t = told::told(k, refusal, 0, 0, 0);
-    kept::turned(k, t)
+    Turn {
+        kept: k,
+        told: told::told(k, refusal, 0, 0, 0),
+    }
 }
 
 // A call that is not one of the equaliser's entries.

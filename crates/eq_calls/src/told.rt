@@ -1,10 +1,11 @@
 // Answers as 24 numbers, zeros behind them. A negative number is 2^64 more.
-ghost use Rattle.std.specs.Prelude.{◌≡◌, ◌<◌, length};
-ghost use Rattle.eq_calls.specs.Told.{from_shown, sums_shown, told_of, bits_at, solved_at, solved_told};
+ghost use Rattle.std.specs.Prelude.{◌≡◌, ◌<◌};
+ghost use Rattle.eq_calls.specs.Told.{from_shown, sums_shown, told_of, bits_at, tap_at, taps_told, solved_told};
 
 use crate::kept::Kept;
-use eq::TapsFrom;
+use refusal::Refusal;
 use sums::Sums;
+use wire::Field;
 
 // The frame of taps: whether there is one, and its number.
 #[derive(Clone, Copy)]
@@ -22,12 +23,12 @@ pub struct Digests {
     pub right: u64,
 }
 
-pub fn from_shown(f: TapsFrom) -> From
+pub fn from_shown(f: Option<u32>) -> From
     ensures { result ≡ from_shown f }
 {
     match f {
-        TapsFrom::Identity => From { known: 0, frame: 0 },
-        TapsFrom::Frame(n) => From {
+        None => From { known: 0, frame: 0 },
+        Some(n) => From {
             known: 1,
             frame: n as u64,
         },
@@ -37,53 +38,41 @@ pub fn from_shown(f: TapsFrom) -> From
 pub fn sums_shown(s: Sums) -> Digests
     ensures { result ≡ sums_shown s }
 {
-    let upper = s.r;
-    let right = s.p;
-    let a = digest::of_i64(&upper);
-    let b = digest::of_i64(&right);
     Digests {
         frame: s.frame as u64,
         count: s.count as u64,
-        upper: a,
-        right: b,
+        upper: digest::of(&s.r),
+        right: digest::of(&s.p),
     }
 }
 
-// The refusal, three numbers of the answer, and all that is kept.
+// The refusal's number, three numbers of the answer, and all that is kept.
 pub(crate) fn told(k: Kept, refusal: u8, x: u64, y: u64, z: u64) -> [u64; 24]
     ensures { result ≡ told_of k refusal x y z }
 {
     let e = k.eq;
-    let s = k.sums;
-    let line = e.line;
-    let taps = e.taps;
-    let f = e.from;
-    let open = e.sums;
-    let a = digest::of_i16(&line);
-    let b = digest::of_i16(&taps);
-    let c = from_shown(f);
-    let d = sums_shown(open);
-    let g = sums_shown(s);
-    let o = fields::flag(e.opened);
+    let from = from_shown(e.from);
+    let open = sums_shown(e.sums);
+    let solver = sums_shown(k.sums);
     [
         refusal as u64,
         x,
         y,
         z,
-        a,
+        digest::of(&e.line),
         e.filled as u64,
-        b,
-        c.known,
-        c.frame,
-        o,
-        d.frame,
-        d.count,
-        d.upper,
-        d.right,
-        g.frame,
-        g.count,
-        g.upper,
-        g.right,
+        digest::of(&e.taps),
+        from.known,
+        from.frame,
+        fields::flag(e.opened),
+        open.frame,
+        open.count,
+        open.upper,
+        open.right,
+        solver.frame,
+        solver.count,
+        solver.upper,
+        solver.right,
         0,
         0,
         0,
@@ -98,36 +87,35 @@ fn bits_at(t: &[i16; 22], k: usize) -> u64
     requires { k < 22 }
     ensures { result ≡ bits_at t.now k }
 {
-    wire::bits16(t[k])
+    t[k].to_bits()
 }
 
-fn solved_at(refusal: u8, t: &[i16; 22], k: usize) -> u64
-    requires { k < 24 }
-    ensures { result ≡ solved_at refusal t.now k }
+fn tap_at(t: &[i16; 22], k: usize) -> u64
+    ensures { result ≡ tap_at t.now k }
 {
-    if k == 0 {
-        refusal as u64
-    } else if k < 23 {
+    if (1 <= k) & (k < 23) {
         bits_at(t, k - 1)
     } else {
         0
     }
 }
 
-fn no_numbers() -> [u64; 24]
-    ensures { length result ≡ 24 }
+fn taps_told(t: &[i16; 22]) -> [u64; 24]
+    ensures { result ≡ taps_told t.now }
 {
-    [0; 24]
+    std::array::from_fn(
+        |k: usize| -> u64
+            ensures { result ≡ tap_at t.entry.now k }
+        { tap_at(t, k) },
+    )
 }
 
-pub(crate) fn solved(refusal: u8, t: &[i16; 22]) -> [u64; 24]
-    ensures { result ≡ solved_told refusal t.now }
+// A refusal's number, or 0 and the taps.
+pub(crate) fn solved(answer: Result<[i16; 22], Refusal>) -> [u64; 24]
+    ensures { result ≡ solved_told answer }
 {
-    let mut n = no_numbers();
-    let mut k: usize = 0;
-    while k < 24 {
-        n[k] = solved_at(refusal, t, k);
-        k += 1;
+    match answer {
+        Ok(taps) => taps_told(&taps),
+        Err(why) => fields::four(why.number(), 0, 0, 0),
     }
-    n
 }

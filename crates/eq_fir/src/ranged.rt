@@ -9,10 +9,8 @@ pub fn shift(line: &mut [i16; 22], i: i16, q: i16)
     requires { length line.old ≡ 22 }
     ensures { line.new ≡ line_after line.old i q }
 {
-    let mut k: usize = 21;
-    while 1 < k {
+    for k in (2..22).rev() {
         line[k] = line[k - 2];
-        k -= 1;
     }
     line[0] = i;
     line[1] = q;
@@ -34,14 +32,14 @@ fn add_im(a: i64, wr: i16, wi: i16, xr: i16, xi: i16) -> i64
     a + ((wr as i64) * (xi as i64) + (wi as i64) * (xr as i64))
 }
 
-// The sum of all taps times their symbols. Its parts have a loop each: with one for both, the compiler keeps too many numbers at a time.
+// The sum of all taps times their symbols. Its parts have a loop each: with one for both, the compiler keeps too many numbers at a time. They
+// differ in the product's formula, so that one function of both would take the formula as a closure, which is no plainer.
 fn sum_re(taps: &[i16; 22], line: &[i16; 22]) -> i64
     requires { (length taps.now ≡ 22) × (length line.now ≡ 22) }
     ensures { (result ≡ (filtered taps.now line.now 11).re) × (nat_abs result ≤ 2 ^ 36) }
 {
     let mut a: i64 = 0;
-    let mut k: usize = 0;
-    while k < 11 {
+    for k in 0..11 {
         a = add_re(
             a,
             taps[2 * k],
@@ -49,7 +47,6 @@ fn sum_re(taps: &[i16; 22], line: &[i16; 22]) -> i64
             line[2 * k],
             line[2 * k + 1],
         );
-        k += 1;
     }
     a
 }
@@ -59,8 +56,7 @@ fn sum_im(taps: &[i16; 22], line: &[i16; 22]) -> i64
     ensures { (result ≡ (filtered taps.now line.now 11).im) × (nat_abs result ≤ 2 ^ 36) }
 {
     let mut a: i64 = 0;
-    let mut k: usize = 0;
-    while k < 11 {
+    for k in 0..11 {
         a = add_im(
             a,
             taps[2 * k],
@@ -68,7 +64,6 @@ fn sum_im(taps: &[i16; 22], line: &[i16; 22]) -> i64
             line[2 * k],
             line[2 * k + 1],
         );
-        k += 1;
     }
     a
 }

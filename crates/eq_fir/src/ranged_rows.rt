@@ -37,10 +37,8 @@ fn pad(l: &[i16; 22]) -> [i16; 24]
     ensures { result ≡ padded l.now }
 {
     let mut r = [0i16; 24];
-    let mut k: usize = 0;
-    while k < 22 {
+    for k in 0..22 {
         r[k] = l[k];
-        k += 1;
     }
     r
 }
@@ -52,10 +50,8 @@ pub fn rows(taps: &[i16; 22]) -> [i16; 96]
 {
     let t = pad(taps);
     let mut r = [0i16; 96];
-    let mut j: usize = 0;
-    while j < 96 {
+    for j in 0..96 {
         r[j] = factor(&t, 48 <= j, j / 24 % 2 == 0, j % 24);
-        j += 1;
     }
     r
 }
@@ -76,14 +72,12 @@ fn dots(l: &[i16; 24], rows: &[i16; 96]) -> Dots
     let mut b: i32 = 0;
     let mut c: i32 = 0;
     let mut d: i32 = 0;
-    let mut k: usize = 0;
-    while k < 24 {
+    for k in 0..24 {
         let x = l[k];
         a = added(a, x, rows[k]);
         b = added(b, x, rows[24 + k]);
         c = added(c, x, rows[48 + k]);
         d = added(d, x, rows[72 + k]);
-        k += 1;
     }
     Dots {
         rh: a,
@@ -108,17 +102,14 @@ pub fn output(rows: &[i16; 96], line: &[i16; 22]) -> Symbol
 {
     let l = pad(line);
     let s = dots(&l, rows);
-    let a = s.rh;
-    let b = s.rl;
-    let c = s.ih;
-    let d = s.il;
     Symbol {
-        i: finished(a, b),
-        q: finished(c, d),
+        i: finished(s.rh, s.rl),
+        q: finished(s.ih, s.il),
     }
 }
 
-// All four sums of the 24 numbers from a place of a buffer on.
+// All four sums of the 24 numbers from a place of a buffer on. It is not one function with `dots`: what a hot loop calls has one call site,
+// since a function with two stayed a call, and cost five times as much.
 fn dots_at(l: &[i16], at: usize, rows: &[i16; 96]) -> Dots
     requires { Bytes rows.now × (at + 24 ≤ length l.now) }
     ensures { result ≡ dots_of (padded (drop at l.now)) rows.now }
@@ -127,14 +118,12 @@ fn dots_at(l: &[i16], at: usize, rows: &[i16; 96]) -> Dots
     let mut b: i32 = 0;
     let mut c: i32 = 0;
     let mut d: i32 = 0;
-    let mut k: usize = 0;
-    while k < 24 {
+    for k in 0..24 {
         let x = l[at + k];
         a = added(a, x, rows[k]);
         b = added(b, x, rows[24 + k]);
         c = added(c, x, rows[48 + k]);
         d = added(d, x, rows[72 + k]);
-        k += 1;
     }
     Dots {
         rh: a,
@@ -150,13 +139,9 @@ fn output_at(rows: &[i16; 96], l: &[i16], at: usize) -> Symbol
     ensures { result ≡ output_by rows.now (drop at l.now) }
 {
     let s = dots_at(l, at, rows);
-    let a = s.rh;
-    let b = s.rl;
-    let c = s.ih;
-    let d = s.il;
     Symbol {
-        i: finished(a, b),
-        q: finished(c, d),
+        i: finished(s.rh, s.rl),
+        q: finished(s.ih, s.il),
     }
 }
 
@@ -166,13 +151,9 @@ pub fn outputs(rows: &[i16; 96], l: &[i16], end: usize, n: usize, out: &mut [i16
     requires { Bytes rows.now × (end + 24 ≤ length l.now) × (2 * n ≤ end + 2) × (2 * n ≤ length out.old) }
     ensures { out.new ≡ firsts (outputs_by rows.now l.now end) (2 * n) ++ drop (2 * n) out.old }
 {
-    let mut k: usize = 0;
-    while k < n {
+    for k in 0..n {
         let z = output_at(rows, l, end - 2 * k);
-        let i = z.i;
-        let q = z.q;
-        out[2 * k] = i;
-        out[2 * k + 1] = q;
-        k += 1;
+        out[2 * k] = z.i;
+        out[2 * k + 1] = z.q;
     }
 }

@@ -1,19 +1,21 @@
 -- What each change of an equaliser keeps, and what a coherent one answers. Assumes nothing.
+use Rattle.std.specs.Prelude.{Option, Ok, Err}
 use Prim.Native.Nat.{◌+◌, ◌*◌, ◌<◌, ◌≤◌, min, suc, zero, ℕ}
-use Rattle.eq.specs.Answers.{train_refusal}
+use Rattle.eq.proofs.Laws.{taking}
+use Rattle.eq.specs.Answers.{range_refusal, train_refusal}
+use Rattle.refusal.specs.declared.Refusal.TheVariants.{Counts}
 use Rattle.eq.specs.Eq.{loaded_eq, pushed_eq, started_eq, trained_eq, trains_eq, with_sums}
 use Rattle.eq.specs.Ranges.{eq_in_range}
 use Rattle.eq.specs.declared.Equaliser.{Equaliser}
-use Rattle.eq.specs.declared.TapsFrom.{TapsFrom}
 use Rattle.eq_fir.specs.Fir.{line_after, no_line, nth}
 use Rattle.eq_range.specs.Coherent.{Coherent}
 use Rattle.eq_train.proofs.Theorems.{sound_in_range, train_sound}
 use Rattle.eq_train.specs.Ranges.{sums_in_range}
 use Rattle.eq_train.specs.Sound.{SumsSound}
-use Rattle.laws.proofs.Tests.{and_both, by_test, if_either, never}
+use Rattle.laws.proofs.Tests.{and_both, if_either, never}
 use Rattle.laws.specs.Choice.{if_no, if_yes, when◌then◌else◌}
 use Rattle.sums.specs.Sums.{empty_sums}
-use borrow.Author.Tests.{le-leb, leb-false}
+use borrow.Author.Tests.{le-leb}
 use lib.Dec.{leb}
 use lib.IntN.{pos, ℤ}
 use lib.ListN.{get_or-replicate, length, length-replicate}
@@ -52,7 +54,7 @@ line_rest l i q n h (suc zero) a b = absurd (no n a)
 line_rest l i q n h (suc (suc k)) a b = get_or-take 20 l k (pos 0) (omega arith) ∙ h k (omega arith) (omega arith)
 
 -- ---- each change
-pub started_coherent : (taps : List ℤ) (from : TapsFrom) → Coherent (started_eq taps from)
+pub started_coherent : (taps : List ℤ) (from : Option ℕ) → Coherent (started_eq taps from)
 unfolding started_eq no_line
 started_coherent taps from =
     record {
@@ -101,27 +103,22 @@ pub trains_open : (e : Equaliser) → trains_eq e ≡ true → e.opened ≡ true
 unfolding trains_eq
 trains_open e t = (and_both e.opened (leb 11 e.filled) t).0
 
--- of an equaliser in range: 8 where it would be counted and the count is full, else 0
-pub refusal_8 : (e : Equaliser) → eq_in_range e ≡ true → (trains_eq e && leb 4194304 e.sums.count) ≡ true → train_refusal e ≡ 8
+-- of an equaliser in range: 8 where it would be counted and the count is full, else none
+pub accepted : (e : Equaliser) → eq_in_range e ≡ true → range_refusal e ≡ Ok tt
+unfolding range_refusal
+accepted e h = if_yes (eq_in_range e) _ _ h
+
+pub refusal_8 : (e : Equaliser) → eq_in_range e ≡ true → (trains_eq e && leb 4194304 e.sums.count) ≡ true → train_refusal e ≡ Err Counts
 unfolding train_refusal
 refusal_8 e h t = if_yes (eq_in_range e) _ _ h ∙ if_yes _ _ _ t
 
-pub refusal_0 : (e : Equaliser) → eq_in_range e ≡ true → (trains_eq e && leb 4194304 e.sums.count) ≡ false → train_refusal e ≡ 0
+pub no_refusal : (e : Equaliser) → eq_in_range e ≡ true → (trains_eq e && leb 4194304 e.sums.count) ≡ false → train_refusal e ≡ Ok tt
 unfolding train_refusal
-refusal_0 e h t = if_yes (eq_in_range e) _ _ h ∙ if_no _ _ _ t
+no_refusal e h t = if_yes (eq_in_range e) _ _ h ∙ if_no _ _ _ t
 
-pub trained_coherent : (e : Equaliser) (di dq : ℤ) → Coherent e → SFits w16 di → SFits w16 dq → train_refusal e ≡ 0 → Coherent (trained_eq e di dq)
+pub trained_coherent : (e : Equaliser) (di dq : ℤ) → Coherent e → SFits w16 di → SFits w16 dq → train_refusal e ≡ Ok tt → Coherent (trained_eq e di dq)
 unfolding trained_eq
 trained_coherent e di dq c fi fq z =
     if_either Coherent (trains_eq e) _ _
-    (λ t. open_coherent e _ c (train_sound e.sums e.line di dq (c.open_sums (trains_open e t)) c.short fi fq (room t)))
+    (λ t. open_coherent e _ c (train_sound e.sums e.line di dq (c.open_sums (trains_open e t)) c.short fi fq ((taking e z).room t)))
     (λ t. c)
-  where
-    room : trains_eq e ≡ true → e.sums.count < 4194304
-    room t =
-        by_test (leb 4194304 e.sums.count)
-        (λ f. absurd (no (sym (refusal_8 e (coherent_in_range e c) (rw (t, f))) ∙ z)))
-        (λ f. leb-false 4194304 e.sums.count f)
-      where
-        no : ◌≡◌ {A = ℕ} 8 0 → ⊥
-        no h = omega arith

@@ -1,11 +1,12 @@
 -- What outputs and sums say of the calls since a start and since an opening.
-use Rattle.std.specs.Prelude.{ℕ, suc, ◌≤◌, ◌<◌, Bool, true, ◌&&◌, List, [], ◌∷◌, ◌≡◌, eqb, ℤ}
+use Rattle.std.specs.Prelude.{ℕ, suc, ◌≤◌, ◌<◌, Bool, ◌&&◌, List, [], ◌∷◌, ◌≡◌, ℤ, None, Some, Result, Ok, IsOk, IsOkAnd, is_ok}
 use Rattle.laws.specs.Choice.{when◌then◌else◌}
 use Rattle.eq_fir.specs.Fir.{output_of}
 use Rattle.eq_train.specs.Sound.{Training, Holds}
+use Rattle.refusal.specs.declared.Refused.{Refused}
+use Rattle.sums.specs.declared.Sums.{Sums}
 use Rattle.eq.specs.declared.Closed.{Closed}
 use Rattle.eq.specs.declared.Equaliser.{Equaliser}
-use Rattle.eq.specs.declared.Equalised.TheVariants.{Nothing, Given}
 use Rattle.eq.specs.Eq.{pushed_eq, trains_eq}
 use Rattle.eq.specs.Answers.{train_refusal, push_answer}
 use Rattle.eq_range.specs.Calls.{Call, restarts, pushes, outputs, opens, trains, closes, loads, eq_of}
@@ -34,9 +35,9 @@ symbols_in (loads taps frame ∷ cs) = symbols_in cs
 
 -- what a push after n others since a start gives: nothing for the first five, then the filter's output for the line with this symbol
 pub record Pushes (e : Equaliser) (n : ℕ) (i q : ℤ) : Type 0 where
-  pub taken : (push_answer e i q).refusal ≡ 0
-  pub few : n < 5 → (push_answer e i q).out ≡ Nothing
-  pub enough : 5 ≤ n → (push_answer e i q).out ≡ Given (output_of e.taps (pushed_eq e i q).line)
+  pub taken : IsOk (push_answer e i q)
+  pub few : n < 5 → IsOkAnd (push_answer e i q) (λ x. x.out ≡ None)
+  pub enough : 5 ≤ n → IsOkAnd (push_answer e i q) (λ x. x.out ≡ Some (output_of e.taps (pushed_eq e i q).line))
 
 -- ---- since an opening
 abbrev pub StaysOpen : List Call → Type 0
@@ -51,7 +52,7 @@ StaysOpen (loads taps frame ∷ cs) = StaysOpen cs
 
 -- a training on e counts: sums are open, the line holds 11 symbols, and it is not refused
 unfoldable pub counts : Equaliser → Bool
-counts e = trains_eq e && eqb (train_refusal e) 0
+counts e = trains_eq e && is_ok (train_refusal e)
 
 -- the trainings among calls on e that count, each with the line that it finds
 unfoldable pub trainings_in : Equaliser → List Call → List Training
@@ -66,9 +67,11 @@ trainings_in e (trains di dq ∷ cs) =
 trainings_in e (closes ∷ cs) = trainings_in (eq_of e closes) cs
 trainings_in e (loads taps frame ∷ cs) = trainings_in (eq_of e (loads taps frame)) cs
 
--- what closing gives: the frame, and exactly these trainings
-pub record Gives (x : Closed) (frame : ℕ) (ts : List Training) : Type 0 where
-  pub taken : x.refusal ≡ 0
-  pub ended : x.ended ≡ true
-  pub of : x.sums.frame ≡ frame
-  pub holds : Holds x.sums ts
+-- what closing gives: sums of the frame, that hold exactly these trainings
+pub record Gives (x : Result Closed (Refused Equaliser)) (frame : ℕ) (ts : List Training) : Type 0 where
+  pub closed : Closed
+  pub sums : Sums
+  pub taken : x ≡ Ok closed
+  pub ended : closed.sums ≡ Some sums
+  pub of : sums.frame ≡ frame
+  pub holds : Holds sums ts

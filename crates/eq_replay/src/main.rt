@@ -15,14 +15,6 @@ use std::io::Write;
 // 256 calls.
 const BLOCK: usize = 49152;
 
-// What a block of input leaves to do.
-#[derive(Clone, Copy)]
-enum Next {
-    Block,
-    Nothing,
-    Short,
-}
-
 // The call at `at`, replaced by its answer: both have 192 bytes.
 fn replace(k: Kept, buf: &mut [u8], at: usize) -> Kept
     requires { at + 192 ≤ length buf.old }
@@ -33,7 +25,7 @@ fn replace(k: Kept, buf: &mut [u8], at: usize) -> Kept
     let t = eq_calls::turn(p[0], k, &p);
     let a = t.told;
     let bytes = wire::packed(&a);
-    wire::streams::put(&bytes, buf, at);
+    wire::ranged::put(&bytes, buf, at);
     t.kept
 }
 
@@ -43,65 +35,10 @@ fn replay(k: Kept, buf: &mut [u8], n: usize) -> Kept
     ensures { (buf.new ≡ replayed k n buf.old) × (result ≡ left_of k n buf.old) }
 {
     let mut s = k;
-    let mut i: usize = 0;
-    while i < n {
+    for i in 0..n {
         s = replace(s, buf, 192 * i);
-        i += 1;
     }
     s
-}
-
-// What is kept after a block, and what is to be done.
-#[derive(Clone, Copy)]
-struct Left {
-    kept: Kept,
-    next: Next,
-}
-
-fn next_of(got: usize, whole: usize, all: usize) -> Next {
-    if whole < got {
-        Next::Short
-    } else if got < all {
-        Next::Nothing
-    } else {
-        Next::Block
-    }
-}
-
-// Reads a block of calls and writes their answers.
-fn block(rt: &HostRuntime, k: Kept, buf: &mut [u8]) -> io::Result<Left> {
-    let got = wire::streams::read_full(&mut rt.stdin(), buf)?;
-    let n = got / 192;
-    let whole = 192 * n;
-    let s = replay(k, buf, n);
-    rt.stdout().write_all(&buf[..whole])?;
-    Ok(Left {
-        kept: s,
-        next: next_of(got, whole, buf.len()),
-    })
-}
-
-// A proved loop has to end, and nothing says that the input does: the turns are counted down from a number that no run uses up.
-fn blocks(rt: &HostRuntime, k: Kept, buf: &mut [u8]) -> io::Result<()> {
-    let mut s = k;
-    let mut turns = u64::MAX;
-    while 0 < turns {
-        let l = block(rt, s, buf)?;
-        s = l.kept;
-        let n = l.next;
-        match n {
-            Next::Block => {
-                turns -= 1;
-            }
-            Next::Nothing => {
-                return Ok(());
-            }
-            Next::Short => {
-                return rt.stderr().write_all(b"the input ends within a call\n");
-            }
-        }
-    }
-    Ok(())
 }
 
 // A read or a write that fails ends the replay with its error.
@@ -109,6 +46,10 @@ fn main(rt: HostRuntime) -> io::Result<()> {
     let mut buf = [0u8; BLOCK];
     let e = eq::new();
     let s = sums::new(0);
-    let k = Kept { eq: e, sums: s };
-    blocks(&rt, k, &mut buf)
+    let mut k = Kept { eq: e, sums: s };
+    wire::ranged::replay(&rt, &mut buf, 192, |calls: &mut [u8]| -> io::Result<()> {
+        let n = calls.len() / 192;
+        k = replay(k, calls, n);
+        rt.stdout().write_all(calls)
+    })
 }

@@ -8,9 +8,7 @@ use sums::Sums;
 pub fn in_range(s: Sums) -> bool
     ensures { result ≡ sums_in_range s }
 {
-    let r = s.r;
-    let p = s.p;
-    (s.count <= 4194304) & upper_in_range(4194304, &r) & ranges::right_in_range(4194304, &p)
+    (s.count <= 4194304) & upper_in_range(4194304, &s.r) & ranges::right_in_range(4194304, &s.p)
 }
 
 // The entries of the upper half, of at most n trainings.
@@ -18,13 +16,11 @@ pub fn upper_in_range(n: u32, s: &[i64; 132]) -> bool
     ensures { result ≡ upper_in_range n s.now 0 11 }
 {
     let mut all = true;
-    let mut r: usize = 0;
     let mut at: usize = 0;
-    while r < 11 {
+    for r in 0..11 {
         let one = ranges::row_in_range(n, s, r, at);
         all = all & one;
         at += 2 * (11 - r);
-        r += 1;
     }
     all
 }

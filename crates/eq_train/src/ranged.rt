@@ -36,15 +36,11 @@ fn add_row(s: &mut [i64; 132], line: &[i16; 22], r: usize, at: usize)
 {
     let ar = line[2 * r];
     let ai = line[2 * r + 1];
-    let mut c = r;
     let mut k = at;
-    while c < 11 {
+    for c in r..11 {
         let v = conj_product(ar, ai, line[2 * c], line[2 * c + 1]);
-        let re = v.re;
-        let im = v.im;
-        s[k] = plus(s[k], re);
-        s[k + 1] = plus(s[k + 1], im);
-        c += 1;
+        s[k] = plus(s[k], v.re);
+        s[k + 1] = plus(s[k + 1], v.im);
         k += 2;
     }
 }
@@ -71,15 +67,10 @@ fn add_right(p: &mut [i64; 22], line: &[i16; 22], di: i16, dq: i16)
     requires { (Room p.old 0 22) × (length line.now ≡ 22) }
     ensures { p.new ≡ added_from p.old 0 (right_products line.now di dq 0 11) }
 {
-    let mut r: usize = 0;
-    while r < 11 {
+    for r in 0..11 {
         let v = conj_product(line[2 * r], line[2 * r + 1], di, dq);
-        let re = v.re;
-        let im = v.im;
-        let k = 2 * r;
-        p[k] = plus(p[k], re);
-        p[k + 1] = plus(p[k + 1], im);
-        r += 1;
+        p[2 * r] = plus(p[2 * r], v.re);
+        p[2 * r + 1] = plus(p[2 * r + 1], v.im);
     }
 }
 
@@ -95,7 +86,7 @@ pub fn train(s: Sums, line: &[i16; 22], di: i16, dq: i16) -> Sums
     Sums {
         frame: s.frame,
         count: s.count + 1,
-        r: r,
-        p: p,
+        r,
+        p,
     }
 }

@@ -25,12 +25,10 @@ pub(crate) fn row_in_range(n: u32, s: &[i64; 132], r: usize, at: usize) -> bool
     ensures { result ≡ row_in_range n s.now r r (11 - r) }
 {
     let mut all = diagonal_in_range(n, s[at], s[at + 1]);
-    let mut c = r + 1;
     let mut k = at + 2;
-    while c < 11 {
+    for c in r + 1..11 {
         let one = product_in_range(n, s[k], s[k + 1]);
         all = all & one;
-        c += 1;
         k += 2;
     }
     all
@@ -40,11 +38,9 @@ pub(crate) fn right_in_range(n: u32, p: &[i64; 22]) -> bool
     ensures { result ≡ right_in_range n p.now 0 11 }
 {
     let mut all = true;
-    let mut r: usize = 0;
-    while r < 11 {
+    for r in 0..11 {
         let one = product_in_range(n, p[2 * r], p[2 * r + 1]);
         all = all & one;
-        r += 1;
     }
     all
 }

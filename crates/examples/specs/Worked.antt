@@ -1,6 +1,7 @@
 -- Document 01, "Bench values": those with a star, each as what a definition gives beside what the document says.
-use Rattle.std.specs.Prelude.{List, [], ◌∷◌, ℕ, ◌^◌, ℤ, pos}
+use Rattle.std.specs.Prelude.{List, [], ◌∷◌, ℕ, ◌^◌, ℤ, pos, Result, Ok}
 use Rattle.laws.specs.Choice.{minus}
+use Rattle.refusal.specs.declared.Refusal.{Refusal}
 use Rattle.fx.specs.Fx.{round_shift, div_round, mag_approx}
 use Rattle.fx.specs.Cordic.{cordic_of}
 use Rattle.phase.specs.Phase.{gain_of}
@@ -12,7 +13,7 @@ use Rattle.frame_map.specs.declared.SlotPart.TheVariants.{Sync, Pilot, Main, Tmc
 -- a number, or what stands at a place of the slot
 pub data Value : Type 0 where
   number : ℤ → Value
-  part : SlotPart → Value
+  part : Result SlotPart Refusal → Value
 
 pub record Example : Type 0 where
   pub given : Value
@@ -24,7 +25,7 @@ given is said = record { given = number given; said = number said }
 
 infix 4 slot◌has◌
 abbrev pub slot◌has◌ : ℕ → SlotPart → Example
-slot j has p = record { given = part (part_of j); said = part p }
+slot j has p = record { given = part (part_of j); said = part (Ok p) }
 
 -- the BPSK points
 abbrev pub bpsk : List ℤ

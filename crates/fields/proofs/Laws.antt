@@ -8,7 +8,16 @@ use borrow.Author.Tests.{ltb-false, ltb-true}
 use lib.ListN.{length, take, drop, drop_of_length-le}
 use lib.Seq.{take_all, length-take-le}
 use Rattle.laws.proofs.Tests.{if_either}
-use Rattle.fields.specs.Fields.{least_of}
+use mathlib.Core.Bool.{Bool, true, false}
+use mir.Val.{bool_byte}
+use Rattle.laws.specs.Choice.{when◌then◌else◌}
+use Rattle.fields.specs.Fields.{flag_of, least_of}
+
+-- ---- a flag as a number
+pub flag_byte : (b : Bool) → bool_byte b ≡ flag_of b
+unfolding flag_of when◌then◌else◌
+flag_byte true = refl
+flag_byte false = refl
 
 -- ---- as many entries as there are
 pub take_least : {A : Type 0} (n : ℕ) (l : List A) → take (least_of n (length l)) l ≡ take n l

@@ -37,9 +37,12 @@ on p k = not (eqb (at p k) 0)
 unfoldable pub flag_of : Bool → ℕ
 flag_of b = when b then 1 else 0
 
--- the 22 numbers from 2 on
-unfoldable pub sixteens_of : List ℕ → List ℤ
-sixteens_of p = firsts (λ k. signed16 p (k + 2)) 22
+-- the 22 numbers from 2 on, each as its field has it; as signed fields of 16 bits
+unfoldable pub parts_of : {T : Type 0} → (ℕ → T) → List ℕ → List T
+parts_of low p = firsts (λ k. low (at p (k + 2))) 22
+
+abbrev pub sixteens_of : List ℕ → List ℤ
+sixteens_of p = parts_of (λ u. signed (2 ^ 15) (u % 2 ^ 16)) p
 
 -- signed byte k of those from a place on; the word of 48 such bytes
 unfoldable pub one_at : List ℕ → ℕ → ℕ → ℤ
@@ -60,12 +63,15 @@ pair_at bytes k = pair_of (get_or bytes k 0) (get_or bytes (k + 1) 0)
 unfoldable pub least_of : ℕ → ℕ → ℕ
 least_of n all = when ltb n all then n else all
 
--- number 1 names an entry, number 2 is its value
-unfoldable pub set_of : List ℕ → List ℤ → List ℤ
-set_of p l = when ltb (at p 1) (length l) then set l (at p 1) (signed16 p 2) else l
+-- number 1 names an entry, number 2 is its value, as the entries' field has it; of signed ones of 16 bits, of naturals of 32
+unfoldable pub set_by : {T : Type 0} → (ℕ → T) → List ℕ → List T → List T
+set_by low p l = when ltb (at p 1) (length l) then set l (at p 1) (low (at p 2)) else l
 
-unfoldable pub set_natural_of : List ℕ → List ℕ → List ℕ
-set_natural_of p l = when ltb (at p 1) (length l) then set l (at p 1) (at32 p 2) else l
+abbrev pub set_of : List ℕ → List ℤ → List ℤ
+set_of p l = set_by (λ u. signed (2 ^ 15) (u % 2 ^ 16)) p l
+
+abbrev pub set_natural_of : List ℕ → List ℕ → List ℕ
+set_natural_of p l = set_by (λ u. u % 2 ^ 32) p l
 
 -- ---- an answer of 24 numbers: a refusal, or 0, and three more; zeros behind them
 unfoldable pub four_told : ℕ → ℕ → ℕ → ℕ → List ℕ

@@ -4,39 +4,27 @@
 pub mod plain;
 pub mod ranged;
 
-ghost use Rattle.std.specs.Prelude.{◌≡◌, ◌≤◌, ◌%◌, ◌^◌, length};
-ghost use Rattle.fields.specs.Fields.{flag_of, sixteens_of, least_of, set_of, set_natural_of, four_told};
+ghost use Rattle.std.specs.Prelude.{◌≡◌, ◌+◌, ◌<◌, ◌≤◌, length, slice_index};
+ghost use Rattle.fields.specs.Fields.{flag_of, parts_of, least_of, set_by, four_told};
 
-pub fn low16(u: u64) -> u16
-    ensures { result ≡ u % 2 ^ 16 }
-{
-    (u % 0x1_0000) as u16
-}
+use wire::Field;
 
 pub fn flag(b: bool) -> u64
     ensures { result ≡ flag_of b }
 {
-    if b { 1 } else { 0 }
-}
-
-// Zeros to fill. A function, since a contract gives a proof the length and no more.
-fn no_sixteens() -> [i16; 22]
-    ensures { length result ≡ 22 }
-{
-    [0; 22]
+    u64::from(b)
 }
 
 // The 22 numbers from 2 on.
-pub fn sixteens(p: &[u64; 24]) -> [i16; 22]
-    ensures { result ≡ sixteens_of p.now }
+pub fn parts<T: Field>(p: &[u64; 24]) -> [T; 22]
+    ensures { result ≡ parts_of T.low p.now }
 {
-    let mut t = no_sixteens();
-    let mut k: usize = 0;
-    while k < 22 {
-        t[k] = wire::signed16(p[k + 2]);
-        k += 1;
-    }
-    t
+    std::array::from_fn(
+        |k: usize| -> T
+            requires { k < 22 }
+            ensures { result ≡ T.low (slice_index p.entry.now (k + 2)) }
+        { T::of_bits(p[k + 2]) },
+    )
 }
 
 // How many entries are lent, of those that there are.
@@ -47,21 +35,12 @@ pub fn least(n: u64, all: usize) -> usize
 }
 
 // Entry p[1] set to p[2], if there is one.
-pub fn set(p: &[u64; 24], l: &mut [i16])
-    ensures { l.new ≡ set_of p.now l.old }
+pub fn set<T: Field + Copy>(p: &[u64; 24], l: &mut [T])
+    ensures { l.new ≡ set_by T.low p.now l.old }
 {
     let k = p[1];
     if k < (l.len() as u64) {
-        l[k as usize] = wire::signed16(p[2]);
-    }
-}
-
-pub fn set_natural(p: &[u64; 24], l: &mut [u32])
-    ensures { l.new ≡ set_natural_of p.now l.old }
-{
-    let k = p[1];
-    if k < (l.len() as u64) {
-        l[k as usize] = wire::low32(p[2]);
+        l[k as usize] = T::of_bits(p[2]);
     }
 }
 

@@ -6,5 +6,5 @@ ghost use Rattle.wire.specs.Wire.{signed};
 pub fn one(b: u8) -> i8
     ensures { result ≡ signed (2 ^ 7) (b % 2 ^ 8) }
 {
-    wire::signed8(b as u64)
+    b.cast_signed()
 }

@@ -1,4 +1,5 @@
 -- What the alignment does over a stretch. Each statement stands above its proof. Assumes nothing.
+use Rattle.std.specs.Prelude.{None, Some}
 use Prim.Native.Nat.{ℕ, ◌+◌, ◌≤◌, min}
 use native.Mathlib.Omega.{arith}
 use mathlib.Core.Bool.{◌&&◌, Bool, true, false, not}
@@ -17,7 +18,6 @@ use Rattle.eq.specs.Eq.{new_eq, started_eq, pushed_eq, trains_eq, trained_eq, wi
 use Rattle.frame_map.specs.Map.{part_of}
 use Rattle.frame_map.proofs.Laws.{part_sync}
 use Rattle.frame_line.specs.declared.Meta.{Meta}
-use Rattle.frame_line.specs.declared.LastAt.TheVariants.{Never, At}
 use Rattle.frame_line.specs.Line.{no_metas, meta_of, joined, moved, gap_at}
 use Rattle.frame_line.specs.Waiting.{waiting_of}
 use Rattle.frame_line.proofs.Theorems.{joined_theorem, moved_theorem}
@@ -34,7 +34,7 @@ not_true false e = refl
 -- ---- ONE SYMBOL WITHOUT A GAP: what came out, then those that wait, are those that waited, then the symbol
 record Step (b : Back) (c : Corrected) (f s : List ℤ) : Type 0 where
   pub order : given_by (pushed_back b c f s).out ++ waiting_of (pushed_back b c f s).back.metas ≡ waiting_of b.metas ++ meta_of c ∷ []
-  pub last : (pushed_back b c f s).back.last ≡ At c.at
+  pub last : (pushed_back b c f s).back.last ≡ Some c.at
   pub count : (pushed_back b c f s).back.metas.count ≡ min (b.metas.count + 1) 5
 
 pub no_gap : (b : Back) (at : ℕ) → gap_at b.last at ≡ false → joined_to b at ≡ b
@@ -66,7 +66,7 @@ unfolding given_all after_all unbroken metas_of
 aligned_theorem b [] f s h u = sym (append-nil (waiting_of b.metas))
 aligned_theorem b (c ∷ cs) f s h u =
     let p = pushed_back b c f s in
-    let k = and_both (not (gap_at b.last c.at)) (unbroken (At c.at) cs) u in
+    let k = and_both (not (gap_at b.last c.at)) (unbroken (Some c.at) cs) u in
     let t = taken_step b c f s h (not_true (gap_at b.last c.at) k.0) in
     let left = waiting_of (after_all p.back cs f s).metas in
     let ih = aligned_theorem p.back cs f s (omega (arith, t.count)) (rw t.last k.1) in
@@ -82,13 +82,13 @@ unfolding after_all unbroken
 waiting_theorem b [] f s h u = omega (arith, h)
 waiting_theorem b (c ∷ cs) f s h u =
     let p = pushed_back b c f s in
-    let k = and_both (not (gap_at b.last c.at)) (unbroken (At c.at) cs) u in
+    let k = and_both (not (gap_at b.last c.at)) (unbroken (Some c.at) cs) u in
     let t = taken_step b c f s h (not_true (gap_at b.last c.at) k.0) in
     let ih = waiting_theorem p.back cs f s (omega (arith, t.count)) (rw t.last k.1) in
     omega (arith, ih, t.count)
 
 -- ---- FROM NEW ON, or from a restart: what came out and the last five, or fewer, are the symbols that came
-pub five_late : (b : Back) (cs : List Corrected) (f s : List ℤ) → unbroken Never cs ≡ true
+pub five_late : (b : Back) (cs : List Corrected) (f s : List ℤ) → unbroken None cs ≡ true
     → (given_all (restarted_back b) cs f s ++ waiting_of (after_all (restarted_back b) cs f s).metas ≡ metas_of cs)
     × ((after_all (restarted_back b) cs f s).metas.count ≡ min (length cs) 5)
 unfolding restarted_back started_back no_metas waiting_of
@@ -138,7 +138,7 @@ unfolding after_all unbroken trained_in
 count_theorem b [] f s h u = omega arith
 count_theorem b (c ∷ cs) f s h u =
     let p = pushed_back b c f s in
-    let k = and_both (not (gap_at b.last c.at)) (unbroken (At c.at) cs) u in
+    let k = and_both (not (gap_at b.last c.at)) (unbroken (Some c.at) cs) u in
     let g = not_true (gap_at b.last c.at) k.0 in
     let t = taken_step b c f s h g in
     omega (arith, count_theorem p.back cs f s (omega (arith, t.count)) (rw t.last k.1), counted b c f s g)

@@ -1,26 +1,23 @@
 -- "A corrected slot is aligned as in `Back::push`, five symbols late."
-use Rattle.std.specs.Prelude.{ℕ, Bool, true, false, List, ltb, ℤ}
+use Rattle.std.specs.Prelude.{ℕ, Bool, true, false, List, ltb, ℤ, Option, None, Some, unwrap_or, Result, Ok, Err}
 use Rattle.laws.specs.Choice.{when◌then◌else◌}
+use Rattle.refusal.specs.declared.Refusal.{Refusal}
 use Rattle.angles.specs.declared.Symbol.{Symbol}
 use Rattle.phase.specs.declared.Corrected.{Corrected}
 use Rattle.eq.specs.declared.Equaliser.{Equaliser}
-use Rattle.eq.specs.declared.Equalised.{Equalised}
-use Rattle.eq.specs.declared.Equalised.TheVariants.{Nothing as NoOutput, Given as Output}
 use Rattle.eq.specs.Eq.{new_eq, started_eq, pushed_eq, output_at, trained_eq}
 use Rattle.frame_map.specs.declared.SlotPart.{SlotPart}
-use Rattle.frame_map.specs.declared.SlotPart.TheVariants.{Sync, Pilot, Main, Tmcc, Refused}
+use Rattle.frame_map.specs.declared.SlotPart.TheVariants.{Sync, Pilot, Main, Tmcc}
 use Rattle.frame_map.specs.Map.{part_of}
 use Rattle.frame_map.specs.Reference.{reference_of}
 use Rattle.frame_line.specs.declared.Meta.{Meta}
-use Rattle.frame_line.specs.declared.LastAt.TheVariants.{Never, At}
 use Rattle.frame_line.specs.Line.{no_metas, meta_of, joined, moved, gap_at}
 use Rattle.frame.specs.declared.Back.{Back}
-use Rattle.frame.specs.declared.Aligned.TheVariants.{Nothing, Given}
 use Rattle.frame.specs.declared.Pushed.{Pushed}
 
 -- ---- starts
 unfoldable pub started_back : Equaliser → Back
-started_back e = record { eq = e; metas = no_metas; last = Never }
+started_back e = record { eq = e; metas = no_metas; last = None }
 
 unfoldable pub new_back : Back
 new_back = started_back new_eq
@@ -35,17 +32,16 @@ unfoldable pub joined_to : Back → ℕ → Back
 joined_to b at = when gap_at b.last at then restarted_back b else b
 
 -- the equalised value, or the symbol's own y where the line gives none (a handed-in state alone)
-unfoldable pub equalised_by : Equalised → Symbol → Symbol
-equalised_by NoOutput y = y
-equalised_by (Output z) y = z
+unfoldable pub equalised_by : Option Symbol → Symbol → Symbol
+equalised_by z y = unwrap_or z y
 
 -- "With sums open, sync symbols train" against their word's entry times 724: an aligned symbol m by its own place and word
-unfoldable pub trained_part : SlotPart → Equaliser → Meta → List ℤ → List ℤ → Equaliser
-trained_part (Sync k) e m f s = let d = reference_of m.word k f s in trained_eq e d.i d.q
-trained_part (Pilot k) e m f s = e
-trained_part (Main k) e m f s = e
-trained_part (Tmcc k) e m f s = e
-trained_part (Refused n) e m f s = e
+unfoldable pub trained_part : Result SlotPart Refusal → Equaliser → Meta → List ℤ → List ℤ → Equaliser
+trained_part (Ok (Sync k)) e m f s = let d = reference_of m.word k f s in trained_eq e d.i d.q
+trained_part (Ok (Pilot k)) e m f s = e
+trained_part (Ok (Main k)) e m f s = e
+trained_part (Ok (Tmcc k)) e m f s = e
+trained_part (Err why) e m f s = e
 
 unfoldable pub trained_at : Equaliser → Meta → List ℤ → List ℤ → Equaliser
 trained_at e m f s = trained_part (part_of m.j) e m f s
@@ -56,20 +52,19 @@ taken_by b c f s =
     let e = pushed_eq b.eq c.y.i c.y.q in
     let w = b.metas in
     when ltb w.count 5
-    then record { refusal = 0; back = record { eq = e; metas = joined w (meta_of c); last = At c.at }; out = Nothing }
+    then record { back = record { eq = e; metas = joined w (meta_of c); last = Some c.at }; out = None }
     else record {
-      refusal = 0;
-      back = record { eq = trained_at e w.first f s; metas = moved w (meta_of c); last = At c.at };
-      out = Given (record { meta = w.first; z = equalised_by (output_at e) c.y });
+      back = record { eq = trained_at e w.first f s; metas = moved w (meta_of c); last = Some c.at };
+      out = Some (record { meta = w.first; z = equalised_by (output_at e) c.y });
     }
 
 unfoldable pub pushed_back : Back → Corrected → List ℤ → List ℤ → Pushed
 pushed_back b c f s = taken_by (joined_to b c.at) c f s
 
 -- whether a place of the slot is a sync symbol's
-unfoldable pub is_sync : SlotPart → Bool
-is_sync (Sync k) = true
-is_sync (Pilot k) = false
-is_sync (Main k) = false
-is_sync (Tmcc k) = false
-is_sync (Refused n) = false
+unfoldable pub is_sync : Result SlotPart Refusal → Bool
+is_sync (Ok (Sync k)) = true
+is_sync (Ok (Pilot k)) = false
+is_sync (Ok (Main k)) = false
+is_sync (Ok (Tmcc k)) = false
+is_sync (Err why) = false

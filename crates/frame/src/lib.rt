@@ -12,14 +12,15 @@ ghost use Rattle.frame.specs.Answers.{restart_answer, push_answer};
 
 use angles::Symbol;
 use eq::Equaliser;
-use frame_line::{LastAt, Meta, Metas};
+use frame_line::{Meta, Metas};
 use phase::Corrected;
+use refusal::{Refusal, Refused};
 
 #[derive(Clone, Copy)]
 pub struct Back {
     pub eq: Equaliser,
     pub metas: Metas,
-    pub last: LastAt,
+    pub last: Option<u64>,
 }
 
 #[derive(Clone, Copy)]
@@ -28,23 +29,11 @@ pub struct AlignedSymbol {
     pub z: Symbol,
 }
 
-#[derive(Clone, Copy)]
-pub enum Aligned {
-    Nothing,
-    Given(AlignedSymbol),
-}
-
-#[derive(Clone, Copy)]
-pub struct Kept {
-    pub refusal: u8,
-    pub back: Back,
-}
-
+// The back, and what came out of it.
 #[derive(Clone, Copy)]
 pub struct Pushed {
-    pub refusal: u8,
     pub back: Back,
-    pub out: Aligned,
+    pub out: Option<AlignedSymbol>,
 }
 
 // Identity taps, nothing waiting.
@@ -55,34 +44,25 @@ pub fn new() -> Back
 }
 
 // Line, waiting symbols and open sums dropped; the taps stay.
-pub fn restart(b: Back) -> Kept
+pub fn restart(b: Back) -> Result<Back, Refused<Back>>
     ensures { result ≡ restart_answer b }
 {
     if plain::in_range(b) {
-        Kept {
-            refusal: 0,
-            back: plain::restarted(b),
-        }
+        Ok(plain::restarted(b))
     } else {
-        Kept {
-            refusal: 6,
-            back: b,
-        }
+        Err(Refused {
+            why: Refusal::Arithmetic,
+            state: b,
+        })
     }
 }
 
 // One corrected symbol. With sums open, an aligned sync symbol trains.
-pub fn push(b: Back, c: Corrected, f: [i8; 48], s: [i8; 48]) -> Pushed
+pub fn push(b: Back, c: Corrected, f: [i8; 48], s: [i8; 48]) -> Result<Pushed, Refused<Back>>
     ensures { result ≡ push_answer b c f s }
 {
-    let n = refusals::push(b, c, &f, &s);
-    if n == 0 {
-        ranged::pushed(b, c, &f, &s)
-    } else {
-        Pushed {
-            refusal: n,
-            back: b,
-            out: Aligned::Nothing,
-        }
+    match refusals::push(b, c, &f, &s) {
+        Ok(()) => Ok(ranged::pushed(b, c, &f, &s)),
+        Err(why) => Err(Refused { why, state: b }),
     }
 }

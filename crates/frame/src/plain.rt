@@ -5,7 +5,6 @@ ghost use Rattle.frame.specs.Ranges.{back_in_range};
 
 use crate::Back;
 use eq::Equaliser;
-use frame_line::LastAt;
 
 pub fn started(e: Equaliser) -> Back
     ensures { result ≡ started_back e }
@@ -13,24 +12,20 @@ pub fn started(e: Equaliser) -> Back
     Back {
         eq: e,
         metas: frame_line::plain::none(),
-        last: LastAt::Never,
+        last: None,
     }
 }
 
 pub(crate) fn restarted(b: Back) -> Back
     ensures { result ≡ restarted_back b }
 {
-    let e = b.eq;
-    let taps = e.taps;
-    let from = e.from;
-    started(eq::plain::started(taps, from))
+    started(eq::plain::started(b.eq.taps, b.eq.from))
 }
 
 pub(crate) fn in_range(b: Back) -> bool
     ensures { result ≡ back_in_range b }
 {
-    let e = b.eq;
-    let w = b.metas;
-    let last = b.last;
-    eq::plain::in_range(e) & frame_line::plain::in_range(w) & frame_line::plain::last_in_range(last)
+    eq::plain::in_range(b.eq)
+        & frame_line::plain::in_range(b.metas)
+        & frame_line::plain::last_in_range(b.last)
 }

@@ -1,4 +1,5 @@
 -- How often whole slots train. Assumes nothing.
+use Rattle.std.specs.Prelude.{Option, None, Some, is_some}
 use Prim.Native.Nat.{ℕ, zero, suc, ◌+◌, ◌*◌, ◌/◌, ◌%◌, ◌^◌, ◌≤◌, ◌<◌, min}
 use native.Mathlib.Omega.{arith}
 use mathlib.Core.Bool.{true, false, not}
@@ -10,11 +11,10 @@ use lib.IntN.{ℤ}
 use lib.ListN.{length, get_or, take, drop, length-append, take-append-drop, get_or-append, length-take, length-drop}
 use lib.Seq.{take-suc, take-take}
 use Rattle.laws.specs.Choice.{when◌then◌else◌}
-use Rattle.laws.proofs.Tests.{by_test, if_both, and_both}
+use Rattle.laws.proofs.Tests.{by_test, if_both, and_both, never}
 use Rattle.phase.specs.declared.Corrected.{Corrected}
+use Rattle.sums.specs.declared.Sums.{Sums}
 use Rattle.sync_corr.specs.Correlate.{ones_of}
-use Rattle.frame_line.specs.declared.LastAt.{LastAt}
-use Rattle.frame_line.specs.declared.LastAt.TheVariants.{Never, At}
 use Rattle.frame_line.specs.Line.{gap_at}
 use Rattle.frame.specs.Stretch.{unbroken}
 use Rattle.frame_map.specs.Map.{part_of}
@@ -23,7 +23,7 @@ use Rattle.frame.proofs.Laws.{sync_places}
 use Rattle.frame.proofs.Theorems.{not_true}
 use Rattle.frame_calls.specs.Calls.{Call, pushes, restarts, opens, CallsFit}
 use Rattle.frame_calls.specs.Received.{Opening, none, since, Received, nothing, dropped, is_open, frame_of, aligned_by, ignored_to, syncs_in, trained_by, trained_since, last_of, joining, joined_by, full_for, push_refused, heard, heard_all, received}
-use Rattle.frame_calls.specs.Slots.{Runs, SlotsTrain, push_all, Fine, AllFine, SlotsClaim}
+use Rattle.frame_calls.specs.Slots.{Runs, SlotsTrain, push_all, Fine, AllFine, SlotsEnd, SlotsClaim}
 use Rattle.frame_calls.proofs.Stretches.{last_snoc, length_snoc, syncs_append, five_behind, counted}
 use Rattle.frame_calls.proofs.Theorems.{calls_told}
 
@@ -145,18 +145,24 @@ all-heard : (h : Received) (xs : List Corrected) (f s : List ℤ) → ones_of f 
 unfolding heard_all push_all unbroken joined_by
 all-heard h [] f s hf hs k u l = ap (λ (ys : List Corrected). record { stretch = ys; sums = h.sums }) (sym (append-nil h.stretch))
 all-heard h (x ∷ xs) f s hf hs k u l =
-    let w = and_both (not (gap_at (last_of h.stretch) x.at)) (unbroken (At x.at) xs) u in
+    let w = and_both (not (gap_at (last_of h.stretch) x.at)) (unbroken (Some x.at) xs) u in
     let n : Received = record { stretch = h.stretch ++ x ∷ []; sums = h.sums } in
-    let e : unbroken (last_of n.stretch) xs ≡ true = ap (λ (y : LastAt). unbroken y xs) (last_snoc h.stretch x) ∙ w.1 in
+    let e : unbroken (last_of n.stretch) xs ≡ true = ap (λ (y : Option ℕ). unbroken y xs) (last_snoc h.stretch x) ∙ w.1 in
     ap (λ (y : Received). heard_all y (push_all xs f s)) (one-heard h x f s hf hs k.0 (not_true _ w.0) (omega (arith, l)))
     ∙ all-heard n xs f s hf hs k.1 e (omega (arith, l, length_snoc h.stretch x))
     ∙ ap (λ (ys : List Corrected). record { stretch = ys; sums = h.sums }) (append_assoc h.stretch (x ∷ []) xs)
 
-slots_heard : (cs : List Call) (frame : ℕ) (xs : List Corrected) (f s : List ℤ) → ones_of f ≡ true → ones_of s ≡ true → AllFine xs → unbroken Never xs ≡ true → length xs ≤ 4194304
+slots_heard : (cs : List Call) (frame : ℕ) (xs : List Corrected) (f s : List ℤ) → ones_of f ≡ true → ones_of s ≡ true → AllFine xs → unbroken None xs ≡ true → length xs ≤ 4194304
     → received (cs ++ restarts ∷ opens frame ∷ push_all xs f s) ≡ record { stretch = xs; sums = since frame 0 }
 unfolding received heard_all heard dropped last_of
 slots_heard cs frame xs f s hf hs k u l =
     heard_append nothing cs (restarts ∷ opens frame ∷ push_all xs f s) ∙ all-heard (record { stretch = []; sums = since frame 0 }) xs f s hf hs k u (omega (arith, l))
+
+-- sums that are ended, and what is true of them
+ends : (x : Option Sums) (frame k : ℕ) → is_some x ≡ true → ((s : Sums) → x ≡ Some s → s.frame ≡ frame) → ((s : Sums) → x ≡ Some s → s.count ≡ 19 + 24 * k)
+    → SlotsEnd x frame k
+ends (Some s) frame k e f c = record { sums = s; ended = refl; of = f s refl; count = c s refl }
+ends None frame k e f c = absurd (never (sym e))
 
 -- ---- RESTARTED, OPENED AND GIVEN k + 1 SLOTS, IT ENDS WITH 19 + 24 k TRAININGS
 pub slots_end : SlotsClaim
@@ -164,8 +170,5 @@ unfolding is_open frame_of trained_since
 slots_end cs frame k xs f s fit hf hs fine u r l m =
     let t = calls_told (cs ++ restarts ∷ opens frame ∷ push_all xs f s) (fit_append cs (restarts ∷ opens frame ∷ push_all xs f s) fit (tt, (tt, fit_pushes xs f s fine))) in
     let e = slots_heard cs frame xs f s hf hs fine u (omega (arith, l, m)) in
-    record {
-      ended = t.ended ∙ ap (λ (h : Received). is_open h.sums) e;
-      of = t.frame ∙ ap (λ (h : Received). frame_of h.sums) e;
-      count = t.count ∙ ap trained_since e ∙ all_slots frame k xs r l;
-    }
+    ends _ frame k (t.ended ∙ ap (λ (h : Received). is_open h.sums) e) (λ x y. t.frame x y ∙ ap (λ (h : Received). frame_of h.sums) e)
+    (λ x y. t.count x y ∙ ap trained_since e ∙ all_slots frame k xs r l)

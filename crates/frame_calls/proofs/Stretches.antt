@@ -1,4 +1,5 @@
 -- One more symbol of a stretch: who waits, who was the last, how many trained. Assumes nothing.
+use Rattle.std.specs.Prelude.{Some}
 use Prim.Native.Nat.{ℕ, zero, suc, ◌+◌, ◌-◌, ◌≤◌, max}
 use native.Mathlib.Omega.{arith}
 use mathlib.Core.Bool.{Bool, ◌&&◌}
@@ -13,14 +14,13 @@ use Rattle.laws.proofs.Tests.{by_test}
 use Rattle.phase.specs.declared.Corrected.{Corrected}
 use Rattle.frame_map.specs.Map.{part_of}
 use Rattle.frame_line.specs.declared.Meta.{Meta}
-use Rattle.frame_line.specs.declared.LastAt.TheVariants.{At}
 use Rattle.frame_line.specs.Line.{meta_of}
 use Rattle.frame.specs.Align.{is_sync}
 use Rattle.frame.specs.Stretch.{metas_of}
 use Rattle.frame_calls.specs.Received.{Opening, none, since, Received, is_open, aligned_by, ignored_to, syncs_in, trained_by, trained_since, last_of, joined_by}
 
 -- ---- the last, and what they come out with
-pub last_snoc : (xs : List Corrected) (c : Corrected) → last_of (xs ++ c ∷ []) ≡ At c.at
+pub last_snoc : (xs : List Corrected) (c : Corrected) → last_of (xs ++ c ∷ []) ≡ Some c.at
 unfolding last_of
 last_snoc [] c = refl
 last_snoc (x ∷ []) c = refl

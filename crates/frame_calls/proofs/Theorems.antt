@@ -1,26 +1,27 @@
 -- What was received says what calls come to. Each statement stands above its proof. Assumes nothing.
+use Rattle.std.specs.Prelude.{Option, None, Some, is_some, unwrap_or, Result, Ok, Err, ⊤}
 use Prim.Native.Nat.{ℕ, ◌+◌, ◌-◌, ◌≤◌, min}
 use native.Mathlib.Omega.{arith}
 use mathlib.Core.Bool.{Bool, true, false, ◌&&◌}
 use mathlib.Core.List.{List, [], ◌∷◌, ◌++◌}
 use mathlib.Core.Path.{◌≡◌, refl, sym, ap, ◌∙◌}
-use borrow.Author.Tests.{le-leb, lt-leb, leb-true, leb-false, lt-ltb, le-ltb, ltb-true, ltb-false, eqb-true}
-use lib.Dec.{eqb, leb, ltb}
+use borrow.Author.Tests.{le-leb, lt-leb, leb-true, leb-false, lt-ltb, le-ltb, ltb-true, ltb-false}
+use lib.Dec.{leb, ltb}
 use lib.IntN.{ℤ}
 use lib.ListN.{length, get_or, drop, length-append, length-drop}
 use lib.Seq.{drop-append_seam, drop-append-le, drop-drop, get_or-drop}
 use Rattle.laws.specs.Choice.{when◌then◌else◌, if_yes, if_no}
-use Rattle.laws.proofs.Tests.{by_test, if_both, if_either}
+use Rattle.laws.proofs.Tests.{by_test, if_either, never}
+use Rattle.refusal.specs.Refusals.{answered, written}
+use Rattle.refusal.specs.declared.Refusal.{Refusal}
 use Rattle.phase.specs.declared.Corrected.{Corrected}
 use Rattle.sums.specs.declared.Sums.{Sums}
 use Rattle.sums.specs.Sums.{empty_sums}
 use Rattle.eq_train.specs.Train.{trained_sums}
 use Rattle.eq.specs.declared.Equaliser.{Equaliser}
-use Rattle.eq.specs.declared.Kept.{Kept}
-use Rattle.eq.specs.declared.Closed.{Closed}
-use Rattle.eq.specs.Eq.{new_eq, started_eq, pushed_eq, trains_eq, trained_eq, with_sums, loaded_eq}
+use Rattle.eq.specs.Eq.{new_eq, started_eq, pushed_eq, trains_eq, trained_eq, with_sums, closed_eq, loaded_eq}
 use Rattle.eq.specs.Ranges.{eq_in_range}
-use Rattle.eq.specs.Answers.{open_answer, close_answer, load_answer}
+use Rattle.eq.specs.Answers.{range_refusal, open_answer, close_answer, load_answer, eq_after_close}
 use Rattle.eq_train.proofs.Theorems.{empty_sound}
 use Rattle.eq_range.specs.Coherent.{Coherent}
 use Rattle.eq_range.proofs.Kept.{coherent_in_range, open_coherent, closed_coherent, loaded_coherent, trains_open}
@@ -28,23 +29,20 @@ use Rattle.frame_map.specs.Map.{part_of}
 use Rattle.frame_map.proofs.Laws.{part_sync}
 use Rattle.frame_line.specs.declared.Meta.{Meta}
 use Rattle.frame_line.specs.declared.Metas.{Metas}
-use Rattle.frame_line.specs.declared.LastAt.{LastAt}
-use Rattle.frame_line.specs.declared.LastAt.TheVariants.{At}
 use Rattle.frame_line.specs.Line.{no_metas, meta_of, gap_at}
 use Rattle.frame_line.specs.Waiting.{waiting_of}
 use Rattle.frame_line.proofs.Theorems.{waiting_length}
 use Rattle.frame.specs.declared.Back.{Back}
 use Rattle.frame.specs.declared.Pushed.{Pushed}
-use Rattle.frame.specs.declared.Kept as frame
 use Rattle.frame.specs.Align.{started_back, new_back, restarted_back, joined_to, is_sync, trained_part, trained_at, taken_by, pushed_back}
 use Rattle.frame.specs.Ranges.{back_in_range}
-use Rattle.frame.specs.Answers.{restart_answer, push_answer, push_refusal, trains_back, full_back}
+use Rattle.frame.specs.Answers.{restart_answer, push_answer, push_refusal, trains_back, full_back, back_of, out_of}
 use Rattle.frame.specs.Stretch.{trained_in, after_all, given_by, given_all, unbroken, metas_of}
 use Rattle.frame.proofs.Laws.{untrained}
 use Rattle.frame.proofs.Theorems.{no_gap, aligned_theorem, waiting_theorem, count_theorem, gap_theorem}
 use Rattle.frame_range.specs.Coherent.{CoherentBack}
 use Rattle.frame_range.proofs.Theorems.{trained_filled, restarted_coherent, new_coherent, push_keeps, coherent_back}
-use Rattle.frame_calls.specs.Calls.{Call, pushes, restarts, opens, closes, loads, CallFits, CallsFit, with_eq, after_call, after_calls, refusal_of}
+use Rattle.frame_calls.specs.Calls.{Call, pushes, restarts, opens, closes, loads, CallFits, CallsFit, with_eq, after_call, after_calls, refusal_of, test_of, sums_ended}
 use Rattle.frame_calls.specs.Received.{Received, none, nothing, is_open, frame_of, trained_by, trained_since, last_of, dropped, joining, joined_by, full_for, push_refused, refused_by, heard, heard_all, received}
 use Rattle.frame_calls.specs.Claims.{Brings, Told, CallsTold}
 use Rattle.frame_calls.proofs.Stretches.{last_snoc, metas_snoc, metas_length, metas_at, length_snoc, trains_next, begins, trained_next, none_yet}
@@ -75,7 +73,7 @@ trained_also P e m f s p q =
     (λ t. rw (untrained e m f s (ltb-false m.j 24 t)) p)
 
 record Filled (b : Back) (c : Corrected) (f s : List ℤ) : Type 0 where
-  pub last : (pushed_back b c f s).back.last ≡ At c.at
+  pub last : (pushed_back b c f s).back.last ≡ Some c.at
   pub filled : (pushed_back b c f s).back.eq.filled ≡ min (b.eq.filled + 1) 11
   pub opened : (pushed_back b c f s).back.eq.opened ≡ b.eq.opened
   pub frame : (pushed_back b c f s).back.eq.sums.frame ≡ b.eq.sums.frame
@@ -202,7 +200,7 @@ joined_tied : (b : Back) (h : Received) (c : Corrected) → Tied b h → Tied (j
 unfolding joined_to joining
 joined_tied b h c t =
     let gap = gap_at (last_of h.stretch) c.at in
-    let e : gap_at b.last c.at ≡ gap = ap (λ (x : LastAt). gap_at x c.at) t.last in
+    let e : gap_at b.last c.at ≡ gap = ap (λ (x : Option ℕ). gap_at x c.at) t.last in
     by_test gap (λ u. rw (if_yes (gap_at b.last c.at) (restarted_back b) b (e ∙ u), if_yes gap (dropped h) h u) (restarted_tied b h))
     (λ u. rw (if_no (gap_at b.last c.at) (restarted_back b) b (e ∙ u), if_no gap (dropped h) h u) t)
 
@@ -211,7 +209,7 @@ any_tied : (b : Back) (h : Received) (c : Corrected) (f s : List ℤ) → Tied b
 unfolding joining restarted_back started_back gap_at
 any_tied b h c f s t =
     let gap = gap_at (last_of h.stretch) c.at in
-    let e : gap_at b.last c.at ≡ gap = ap (λ (x : LastAt). gap_at x c.at) t.last in
+    let e : gap_at b.last c.at ≡ gap = ap (λ (x : Option ℕ). gap_at x c.at) t.last in
     by_test gap (λ u. rw (gap_theorem b c f s (e ∙ u), if_yes gap (dropped h) h u) (pushed_tied (restarted_back b) (dropped h) c f s (restarted_tied b h) refl))
     (λ u. rw (if_no gap (dropped h) h u) (pushed_tied b h c f s t (e ∙ u)))
 
@@ -230,37 +228,37 @@ unfolding push_refusal push_refused
 push_told b h c f s k t = rw (coherent_back b k, full_told (joined_to b c.at) (joining h c) c (joined_tied b h c t))
 
 -- ---- each other call, of an equaliser in range
-open_is : (e : Equaliser) (frame : ℕ) → eq_in_range e ≡ true → open_answer e frame ≡ record { refusal = 0; eq = with_sums e true (empty_sums frame) }
-unfolding open_answer
-open_is e frame r = if_yes (eq_in_range e) _ _ r
+open_is : (e : Equaliser) (frame : ℕ) → eq_in_range e ≡ true → open_answer e frame ≡ Ok (with_sums e true (empty_sums frame))
+unfolding open_answer range_refusal
+open_is e frame r = rw (if_yes (eq_in_range e) _ _ r)
 
-load_is : (e : Equaliser) (taps : List ℤ) (frame : ℕ) → eq_in_range e ≡ true → load_answer e taps frame ≡ record { refusal = 0; eq = loaded_eq e taps frame }
-unfolding load_answer
-load_is e taps frame r = if_yes (eq_in_range e) _ _ r
+load_is : (e : Equaliser) (taps : List ℤ) (frame : ℕ) → eq_in_range e ≡ true → load_answer e taps frame ≡ Ok (loaded_eq e taps frame)
+unfolding load_answer range_refusal
+load_is e taps frame r = rw (if_yes (eq_in_range e) _ _ r)
 
-restart_is : (b : Back) → back_in_range b ≡ true → restart_answer b ≡ record { refusal = 0; back = restarted_back b }
+restart_is : (b : Back) → back_in_range b ≡ true → restart_answer b ≡ Ok (restarted_back b)
 unfolding restart_answer
 restart_is b r = if_yes (back_in_range b) _ _ r
 
 -- closing answers the open sums, and leaves none
 record Closes (e : Equaliser) : Type 0 where
-  pub refusal : (close_answer e).refusal ≡ 0
-  pub eq : (close_answer e).eq ≡ with_sums e false (empty_sums 0)
-  pub ended : (close_answer e).ended ≡ e.opened
-  pub sums : (close_answer e).sums ≡ e.sums
+  pub refusal : test_of (close_answer e) ≡ Ok tt
+  pub eq : eq_after_close (close_answer e) ≡ with_sums e false (empty_sums 0)
+  pub ended : is_some (sums_ended (close_answer e)) ≡ e.opened
+  pub sums : (s : Sums) → sums_ended (close_answer e) ≡ Some s → s ≡ e.sums
 
 close_is : (e : Equaliser) → Coherent e → Closes e
-unfolding close_answer with_sums when◌then◌else◌
+unfolding close_answer range_refusal closed_eq with_sums when◌then◌else◌
 close_is e k =
     let r = coherent_in_range e k in
-    by_test e.opened (λ o. record { refusal = rw (r, o); eq = rw (r, o); ended = rw (r, o); sums = rw (r, o) })
-    (λ o. record { refusal = rw (r, o); eq = shut o; ended = rw (r, o); sums = rw (r, o) (sym (k.no_sums o)) })
+    by_test e.opened (λ o. record { refusal = rw r; eq = rw (r, o); ended = rw (r, o); sums = λ s h. sym (same e.sums s (rw (r, o) at h)) })
+    (λ o. record { refusal = rw r; eq = rw (r, o) (ap (λ (x : Sums). with_sums e false x) (k.no_sums o)); ended = rw (r, o); sums = λ s h. absurd (nothing_some s (rw (r, o) at h)) })
   where
-    shut : e.opened ≡ false → (close_answer e).eq ≡ with_sums e false (empty_sums 0)
-    shut o =
-        ap (λ (x : Closed). x.eq) (if_yes (eq_in_range e) _ _ (coherent_in_range e k) ∙ if_no e.opened _ _ o)
-        ∙ ap (λ (x : Bool). with_sums e x e.sums) o
-        ∙ ap (λ (x : Sums). with_sums e false x) (k.no_sums o)
+    same : (x y : Sums) → Some x ≡ Some y → x ≡ y
+    same x y h = ap (λ (o : Option Sums). unwrap_or o x) h
+
+    nothing_some : (x : Sums) → None ≡ Some x → ⊥
+    nothing_some x h = never (sym (ap (λ (o : Option Sums). is_some o) h))
 
 -- ---- the field `eq` replaced
 with_coherent : (b : Back) (e : Equaliser) → CoherentBack b → Coherent e → e.filled ≡ b.eq.filled → CoherentBack (with_eq b e)
@@ -301,20 +299,14 @@ loaded_tied b h taps frame t =
     }
 
 -- ---- a push, by its refusal
-push_taken : (b : Back) (c : Corrected) (f s : List ℤ) → eqb (push_refusal b c f s) 0 ≡ true → (push_answer b c f s).back ≡ (pushed_back b c f s).back
-unfolding push_answer when◌then◌else◌
-push_taken b c f s u = rw u
+test_shown : (r : Result ⊤ Refusal) (b : Back) (p : Pushed) → test_of (answered r b p) ≡ r
+test_shown (Ok x) b p = refl
+test_shown (Err why) b p = refl
 
-push_refused_lem : (b : Back) (c : Corrected) (f s : List ℤ) → eqb (push_refusal b c f s) 0 ≡ false → (push_answer b c f s).back ≡ b
-unfolding push_answer when◌then◌else◌
-push_refused_lem b c f s u = rw u
-
-push_number : (b : Back) (c : Corrected) (f s : List ℤ) → (push_answer b c f s).refusal ≡ push_refusal b c f s
-unfolding push_answer pushed_back taken_by
-push_number b c f s =
-    if_either (λ (x : Pushed). x.refusal ≡ push_refusal b c f s) (eqb (push_refusal b c f s) 0) _ _
-    (λ u. if_both (λ (x : Pushed). x.refusal ≡ push_refusal b c f s) _ _ _ (sym (eqb-true (push_refusal b c f s) 0 u)) (sym (eqb-true (push_refusal b c f s) 0 u)))
-    (λ u. refl)
+-- what is taken is heard, and what is refused is not
+heard_so : (r : Result ⊤ Refusal) (b : Back) (p : Pushed) (h x : Received) → Tied p.back x → Tied b h → Tied (back_of (answered r b p)) (written r h x)
+heard_so (Ok y) b p h x s t = s
+heard_so (Err why) b p h x s t = t
 
 -- ---- EVERY CALL KEEPS THE RANGES, a refused one too
 pub call_keeps : (b : Back) (c : Call) → CoherentBack b → CallFits c → CoherentBack (after_call b c)
@@ -332,12 +324,9 @@ call_keeps b (loads taps frame) k y =
 
 -- ---- .. AND IS HEARD
 call_tied : (b : Back) (h : Received) (c : Call) → CoherentBack b → Tied b h → Tied (after_call b c) (heard h c)
-unfolding after_call heard
+unfolding after_call heard push_answer
 call_tied b h (pushes c f s) k t =
-    let n = push_refused h c f s in
-    let e : eqb (push_refusal b c f s) 0 ≡ eqb n 0 = ap (λ (x : ℕ). eqb x 0) (push_told b h c f s k t) in
-    by_test (eqb n 0) (λ u. rw (after_call, push_taken b c f s (e ∙ u), if_yes (eqb n 0) (joined_by (joining h c) c) h u) (any_tied b h c f s t))
-    (λ u. rw (after_call, push_refused_lem b c f s (e ∙ u), if_no (eqb n 0) (joined_by (joining h c) c) h u) t)
+    rw (push_told b h c f s k t) (heard_so (push_refused h c f s) b (pushed_back b c f s) h (joined_by (joining h c) c) (any_tied b h c f s t) t)
 call_tied b h restarts k t = rw (after_call, restart_is b (coherent_back b k)) (restarted_tied b h)
 call_tied b h (opens frame) k t = rw (after_call, open_is b.eq frame (coherent_in_range b.eq k.eq)) (opened_tied b h frame t)
 call_tied b h closes k t = rw (after_call, (close_is b.eq k.eq).eq) (closed_tied b h t)
@@ -345,12 +334,12 @@ call_tied b h (loads taps frame) k t = rw (after_call, load_is b.eq taps frame (
 
 -- ---- EACH CALL'S REFUSAL, by what was received
 call_refusal : (b : Back) (h : Received) (c : Call) → CoherentBack b → Tied b h → refusal_of b c ≡ refused_by h c
-unfolding refusal_of refused_by
-call_refusal b h (pushes c f s) k t = push_number b c f s ∙ push_told b h c f s k t
-call_refusal b h restarts k t = ap (λ (x : frame.Kept). x.refusal) (restart_is b (coherent_back b k))
-call_refusal b h (opens frame) k t = ap (λ (x : Kept). x.refusal) (open_is b.eq frame (coherent_in_range b.eq k.eq))
+unfolding refusal_of refused_by push_answer
+call_refusal b h (pushes c f s) k t = test_shown (push_refusal b c f s) b (pushed_back b c f s) ∙ push_told b h c f s k t
+call_refusal b h restarts k t = rw (restart_is b (coherent_back b k))
+call_refusal b h (opens frame) k t = rw (open_is b.eq frame (coherent_in_range b.eq k.eq))
 call_refusal b h closes k t = (close_is b.eq k.eq).refusal
-call_refusal b h (loads taps frame) k t = ap (λ (x : Kept). x.refusal) (load_is b.eq taps frame (coherent_in_range b.eq k.eq))
+call_refusal b h (loads taps frame) k t = rw (load_is b.eq taps frame (coherent_in_range b.eq k.eq))
 
 -- ---- WHAT COMES OUT, by what was received
 taken_out : (b : Back) (h : Received) (c : Corrected) (f s : List ℤ) → Tied b h → Brings h c (taken_by b c f s).out
@@ -361,10 +350,10 @@ taken_out b h c f s t =
       enough = λ l. rw (le-ltb b.metas.count 5 (omega (arith, t.count, l))) (ap (λ (m : Meta). m ∷ []) (oldest b h c t l));
     }
 
-push_out : (b : Back) (h : Received) (c : Corrected) (f s : List ℤ) → CoherentBack b → Tied b h → push_refused h c f s ≡ 0 → Brings (joining h c) c (push_answer b c f s).out
-unfolding push_answer pushed_back when◌then◌else◌
+push_out : (b : Back) (h : Received) (c : Corrected) (f s : List ℤ) → CoherentBack b → Tied b h → push_refused h c f s ≡ Ok tt → Brings (joining h c) c (out_of (push_answer b c f s))
+unfolding push_answer pushed_back
 push_out b h c f s k t z =
-    let e : push_refusal b c f s ≡ 0 = push_told b h c f s k t ∙ z in
+    let e : push_refusal b c f s ≡ Ok tt = push_told b h c f s k t ∙ z in
     rw e (taken_out (joined_to b c.at) (joining h c) c f s (joined_tied b h c t))
 
 -- ---- CALLS: of every list of calls from a new alignment on, what was received says the refusals, whether sums are open, and their count
@@ -377,8 +366,8 @@ told b h k t =
       refusal = λ x. call_refusal b h x k t;
       given = λ c f s z. push_out b h c f s k t z;
       ended = c.ended ∙ t.opened;
-      frame = ap (λ (x : Sums). x.frame) c.sums ∙ t.frame;
-      count = ap (λ (x : Sums). x.count) c.sums ∙ t.trained;
+      frame = λ s e. ap (λ (x : Sums). x.frame) (c.sums s e) ∙ t.frame;
+      count = λ s e. ap (λ (x : Sums). x.count) (c.sums s e) ∙ t.trained;
     }
 
 calls_go : (b : Back) (h : Received) (cs : List Call) → CoherentBack b → Tied b h → CallsFit cs → Told (after_calls b cs) (heard_all h cs)

@@ -1,10 +1,15 @@
 -- Calls one after another, from a new alignment on: its own entries, and the equaliser's on the field `eq`. Refused ones are among them.
-use Rattle.std.specs.Prelude.{ℕ, List, [], ◌∷◌, ℤ}
+use Rattle.std.specs.Prelude.{ℕ, List, [], ◌∷◌, ℤ, Option, None, Result, Ok, Err, ⊤}
 use Rattle.phase.specs.declared.Corrected.{Corrected}
+use Rattle.refusal.specs.Refusals.{state_after}
+use Rattle.refusal.specs.declared.Refusal.{Refusal}
+use Rattle.refusal.specs.declared.Refused.{Refused}
+use Rattle.sums.specs.declared.Sums.{Sums}
+use Rattle.eq.specs.declared.Closed.{Closed}
 use Rattle.eq.specs.declared.Equaliser.{Equaliser}
-use Rattle.eq.specs.Answers.{open_answer, close_answer, load_answer}
+use Rattle.eq.specs.Answers.{open_answer, close_answer, load_answer, eq_after_close}
 use Rattle.frame.specs.declared.Back.{Back}
-use Rattle.frame.specs.Answers.{restart_answer, push_answer}
+use Rattle.frame.specs.Answers.{restart_answer, push_answer, back_of}
 use Rattle.frame_range.specs.Coherent.{Short}
 
 -- a symbol with the two words of that call; a frame; taps and their frame
@@ -20,19 +25,29 @@ with_eq b e = record { eq = e; metas = b.metas; last = b.last }
 
 -- the alignment that a call on b answers
 unfoldable pub after_call : Back → Call → Back
-after_call b (pushes c f s) = (push_answer b c f s).back
-after_call b restarts = (restart_answer b).back
-after_call b (opens frame) = with_eq b (open_answer b.eq frame).eq
-after_call b closes = with_eq b (close_answer b.eq).eq
-after_call b (loads taps frame) = with_eq b (load_answer b.eq taps frame).eq
+after_call b (pushes c f s) = back_of (push_answer b c f s)
+after_call b restarts = state_after (restart_answer b)
+after_call b (opens frame) = with_eq b (state_after (open_answer b.eq frame))
+after_call b closes = with_eq b (eq_after_close (close_answer b.eq))
+after_call b (loads taps frame) = with_eq b (state_after (load_answer b.eq taps frame))
 
--- the refusal that it answers, 0 if none
-unfoldable pub refusal_of : Back → Call → ℕ
-refusal_of b (pushes c f s) = (push_answer b c f s).refusal
-refusal_of b restarts = (restart_answer b).refusal
-refusal_of b (opens frame) = (open_answer b.eq frame).refusal
-refusal_of b closes = (close_answer b.eq).refusal
-refusal_of b (loads taps frame) = (load_answer b.eq taps frame).refusal
+-- whether an answer is a refusal, and which
+abbrev pub test_of : {T S : Type 0} → Result T (Refused S) → Result ⊤ Refusal
+test_of (Ok answer) = Ok tt
+test_of (Err refused) = Err refused.why
+
+-- the refusal that it answers, if any
+unfoldable pub refusal_of : Back → Call → Result ⊤ Refusal
+refusal_of b (pushes c f s) = test_of (push_answer b c f s)
+refusal_of b restarts = test_of (restart_answer b)
+refusal_of b (opens frame) = test_of (open_answer b.eq frame)
+refusal_of b closes = test_of (close_answer b.eq)
+refusal_of b (loads taps frame) = test_of (load_answer b.eq taps frame)
+
+-- the sums that closing ends, if any were open
+abbrev pub sums_ended : Result Closed (Refused Equaliser) → Option Sums
+sums_ended (Ok closed) = closed.sums
+sums_ended (Err refused) = None
 
 -- .. and after several
 unfoldable pub after_calls : Back → List Call → Back

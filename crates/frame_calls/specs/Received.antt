@@ -1,12 +1,13 @@
 -- What an alignment has received, by its calls alone: no alignment and no equaliser stands in here.
-use Rattle.std.specs.Prelude.{ℕ, ◌+◌, ◌-◌, ◌^◌, max, Bool, true, false, not, ◌&&◌, List, [], ◌∷◌, ◌++◌, eqb, leb, ltb, ℤ, length, take, drop}
+use Rattle.std.specs.Prelude.{ℕ, ◌+◌, ◌-◌, ◌^◌, max, Bool, true, false, not, ◌&&◌, List, [], ◌∷◌, ◌++◌, leb, ltb, ℤ, length, take, drop, Option, None, Some, Result, Ok, Err, ⊤}
 use Rattle.laws.specs.Choice.{when◌then◌else◌}
+use Rattle.refusal.specs.Refusals.{written}
+use Rattle.refusal.specs.declared.Refusal.{Refusal}
+use Rattle.refusal.specs.declared.Refusal.TheVariants.{Words, Arithmetic, Position, Counts}
 use Rattle.fx.specs.Answers.{wide}
 use Rattle.sync_corr.specs.Correlate.{ones_of}
 use Rattle.phase.specs.declared.Corrected.{Corrected}
 use Rattle.frame_map.specs.Map.{part_of}
-use Rattle.frame_line.specs.declared.LastAt.{LastAt}
-use Rattle.frame_line.specs.declared.LastAt.TheVariants.{Never, At}
 use Rattle.frame_line.specs.Line.{gap_at}
 use Rattle.frame.specs.Align.{is_sync}
 use Rattle.frame_calls.specs.Calls.{Call, pushes, restarts, opens, closes, loads}
@@ -57,9 +58,9 @@ unfoldable pub trained_since : Received → ℕ
 trained_since h = trained_by h.sums h.stretch
 
 -- ---- one call
-unfoldable pub last_of : List Corrected → LastAt
-last_of [] = Never
-last_of (c ∷ []) = At c.at
+unfoldable pub last_of : List Corrected → Option ℕ
+last_of [] = None
+last_of (c ∷ []) = Some c.at
 last_of (c ∷ d ∷ ds) = last_of (d ∷ ds)
 
 -- a restart, "equaliser and alignment" (The receiver), drops the symbols and open sums; and so does a gap
@@ -78,24 +79,24 @@ unfoldable pub full_for : Received → Corrected → Bool
 full_for h c = ltb (trained_since h) (trained_since (joined_by h c)) && leb 4194304 (trained_since h)
 
 -- 2, an entry of a word; 6, "slot index over 9,295", a gain of size over 2^60; 7, at 2^62 or more; 8 (Refusals)
-unfoldable pub push_refused : Received → Corrected → List ℤ → List ℤ → ℕ
+unfoldable pub push_refused : Received → Corrected → List ℤ → List ℤ → Result ⊤ Refusal
 push_refused h c f s =
     when ones_of f && ones_of s
     then when ltb c.j 9296 && not (wide c.gain)
-    then when leb (2 ^ 62) c.at then 7 else when full_for (joining h c) c then 8 else 0
-    else 6
-    else 2
+    then when leb (2 ^ 62) c.at then Err Position else when full_for (joining h c) c then Err Counts else Ok tt
+    else Err Arithmetic
+    else Err Words
 
 -- no other call is refused
-unfoldable pub refused_by : Received → Call → ℕ
+unfoldable pub refused_by : Received → Call → Result ⊤ Refusal
 refused_by h (pushes c f s) = push_refused h c f s
-refused_by h restarts = 0
-refused_by h (opens frame) = 0
-refused_by h closes = 0
-refused_by h (loads taps frame) = 0
+refused_by h restarts = Ok tt
+refused_by h (opens frame) = Ok tt
+refused_by h closes = Ok tt
+refused_by h (loads taps frame) = Ok tt
 
 unfoldable pub heard : Received → Call → Received
-heard h (pushes c f s) = when eqb (push_refused h c f s) 0 then joined_by (joining h c) c else h
+heard h (pushes c f s) = written (push_refused h c f s) h (joined_by (joining h c) c)
 heard h restarts = dropped h
 heard h (opens frame) = record { stretch = h.stretch; sums = since frame (length h.stretch) }
 heard h closes = record { stretch = h.stretch; sums = none }

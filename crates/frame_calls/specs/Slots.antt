@@ -1,15 +1,14 @@
 -- How often whole slots train: stretches whose slot indexes run 0, 1, 2, .. from their first symbol on.
-use Rattle.std.specs.Prelude.{ℕ, suc, ◌+◌, ◌*◌, ◌%◌, ◌≤◌, ◌<◌, ◌^◌, true, false, List, [], ◌∷◌, ◌++◌, ◌≡◌, ℤ, length, get_or}
+use Rattle.std.specs.Prelude.{ℕ, suc, ◌+◌, ◌*◌, ◌%◌, ◌≤◌, ◌<◌, ◌^◌, true, false, List, [], ◌∷◌, ◌++◌, ◌≡◌, ℤ, length, get_or, Option, None, Some}
 use Rattle.fx.specs.Answers.{wide}
 use Rattle.sync_corr.specs.Correlate.{ones_of}
 use Rattle.phase.specs.declared.Corrected.{Corrected}
-use Rattle.eq.specs.declared.Closed.{Closed}
+use Rattle.sums.specs.declared.Sums.{Sums}
 use Rattle.eq.specs.Answers.{close_answer}
-use Rattle.frame_line.specs.declared.LastAt.TheVariants.{Never}
 use Rattle.frame.specs.Align.{new_back}
 use Rattle.frame.specs.Stretch.{unbroken}
 use Rattle.frame_range.specs.Coherent.{Short}
-use Rattle.frame_calls.specs.Calls.{Call, pushes, restarts, opens, CallsFit, after_calls}
+use Rattle.frame_calls.specs.Calls.{Call, pushes, restarts, opens, CallsFit, after_calls, sums_ended}
 use Rattle.frame_calls.specs.Received.{since, trained_by}
 
 -- "A slot or period is 9,296 symbols" (Slot sync and carrier)
@@ -42,12 +41,13 @@ AllFine [] = Unit {0}
 AllFine (c ∷ cs) = Fine c × AllFine cs
 
 -- whatever came before: restarted, opened and given k + 1 slots in a row, 451 at most, it ends with 19 + 24 k trainings
-pub record SlotsEnd (x : Closed) (frame k : ℕ) : Type 0 where
-  pub ended : x.ended ≡ true
-  pub of : x.sums.frame ≡ frame
-  pub count : x.sums.count ≡ 19 + 24 * k
+pub record SlotsEnd (x : Option Sums) (frame k : ℕ) : Type 0 where
+  pub sums : Sums
+  pub ended : x ≡ Some sums
+  pub of : sums.frame ≡ frame
+  pub count : sums.count ≡ 19 + 24 * k
 
 abbrev pub SlotsClaim : Type 0
 SlotsClaim = (cs : List Call) (frame k : ℕ) (xs : List Corrected) (f s : List ℤ) → CallsFit cs → ones_of f ≡ true → ones_of s ≡ true → AllFine xs
-    → unbroken Never xs ≡ true → Runs xs → length xs ≡ suc k * 9296 → k ≤ 450
-    → SlotsEnd (close_answer (after_calls new_back (cs ++ restarts ∷ opens frame ∷ push_all xs f s)).eq) frame k
+    → unbroken None xs ≡ true → Runs xs → length xs ≡ suc k * 9296 → k ≤ 450
+    → SlotsEnd (sums_ended (close_answer (after_calls new_back (cs ++ restarts ∷ opens frame ∷ push_all xs f s)).eq)) frame k

@@ -1,16 +1,13 @@
 -- "A corrected slot is aligned as in `Back::push`, five symbols late": the symbols that wait.
-use Rattle.std.specs.Prelude.{ℕ, ◌+◌, Bool, false, not, eqb}
+use Rattle.std.specs.Prelude.{ℕ, ◌+◌, Bool, false, not, eqb, Option, None, Some}
 use Rattle.laws.specs.Choice.{when◌then◌else◌}
 use Rattle.sync_heads.specs.declared.Word.TheVariants.{Ssync}
-use Rattle.sync_heads.specs.declared.Slot.TheVariants.{Unknown}
 use Rattle.phase.specs.declared.Corrected.{Corrected}
 use Rattle.frame_line.specs.declared.Meta.{Meta}
 use Rattle.frame_line.specs.declared.Metas.{Metas}
-use Rattle.frame_line.specs.declared.LastAt.{LastAt}
-use Rattle.frame_line.specs.declared.LastAt.TheVariants.{Never, At}
 
 unfoldable pub blank : Meta
-blank = record { at = 0; j = 0; word = Ssync; slot = Unknown }
+blank = record { at = 0; j = 0; word = Ssync; slot = None }
 
 unfoldable pub no_metas : Metas
 no_metas = record { count = 0; first = blank; second = blank; third = blank; fourth = blank; fifth = blank }
@@ -41,6 +38,6 @@ unfoldable pub moved : Metas → Meta → Metas
 moved w m = record { count = w.count; first = w.second; second = w.third; third = w.fourth; fourth = w.fifth; fifth = m }
 
 -- a gap: the last position is there, and is not the one before (also a repeated or a lower one)
-unfoldable pub gap_at : LastAt → ℕ → Bool
-gap_at Never at = false
-gap_at (At a) at = not (eqb (a + 1) at)
+unfoldable pub gap_at : Option ℕ → ℕ → Bool
+gap_at None at = false
+gap_at (Some a) at = not (eqb (a + 1) at)

@@ -1,9 +1,7 @@
 -- The ranges of docs/RANGES.md, "Alignment".
-use Rattle.std.specs.Prelude.{ℕ, ◌^◌, Bool, true, ◌&&◌, ◌||◌, leb, ltb}
+use Rattle.std.specs.Prelude.{ℕ, ◌^◌, Bool, true, ◌&&◌, ◌||◌, leb, ltb, Option, None, Some}
 use Rattle.frame_line.specs.declared.Meta.{Meta}
 use Rattle.frame_line.specs.declared.Metas.{Metas}
-use Rattle.frame_line.specs.declared.LastAt.{LastAt}
-use Rattle.frame_line.specs.declared.LastAt.TheVariants.{Never, At}
 
 -- waiting symbols adjoin: k positions lie before that of place k
 unfoldable pub meta_in_range : ℕ → Meta → Bool
@@ -19,6 +17,6 @@ metas_in_range w =
     leb n 5 && place_in_range n 0 w.first && place_in_range n 1 w.second && place_in_range n 2 w.third && place_in_range n 3 w.fourth
     && place_in_range n 4 w.fifth
 
-unfoldable pub last_in_range : LastAt → Bool
-last_in_range Never = true
-last_in_range (At a) = ltb a (2 ^ 62)
+unfoldable pub last_in_range : Option ℕ → Bool
+last_in_range None = true
+last_in_range (Some a) = ltb a (2 ^ 62)

@@ -4,7 +4,7 @@
 pub mod plain;
 pub mod ranged;
 
-use sync_heads::{Slot, Word};
+use sync_heads::{SlotNumber, Word};
 
 // What a waiting symbol comes out with.
 #[derive(Clone, Copy)]
@@ -12,7 +12,7 @@ pub struct Meta {
     pub at: u64,
     pub j: u16,
     pub word: Word,
-    pub slot: Slot,
+    pub slot: Option<SlotNumber>,
 }
 
 // Up to five waiting symbols, the oldest first; places behind them are not looked at.
@@ -24,11 +24,4 @@ pub struct Metas {
     pub third: Meta,
     pub fourth: Meta,
     pub fifth: Meta,
-}
-
-// The position of the last symbol that came.
-#[derive(Clone, Copy)]
-pub enum LastAt {
-    Never,
-    At(u64),
 }

@@ -3,9 +3,9 @@ ghost use Rattle.std.specs.Prelude.{◌≡◌, true, ◌<◌};
 ghost use Rattle.frame_line.specs.Line.{no_metas, meta_of, moved};
 ghost use Rattle.frame_line.specs.Ranges.{meta_in_range, place_in_range, metas_in_range, last_in_range};
 
-use crate::{LastAt, Meta, Metas};
+use crate::{Meta, Metas};
 use phase::Corrected;
-use sync_heads::{Slot, Word};
+use sync_heads::Word;
 
 pub fn none() -> Metas
     ensures { result ≡ no_metas }
@@ -14,7 +14,7 @@ pub fn none() -> Metas
         at: 0,
         j: 0,
         word: Word::Ssync,
-        slot: Slot::Unknown,
+        slot: None,
     };
     Metas {
         count: 0,
@@ -29,13 +29,11 @@ pub fn none() -> Metas
 pub fn meta_of(c: Corrected) -> Meta
     ensures { result ≡ meta_of c }
 {
-    let word = c.word;
-    let slot = c.slot;
     Meta {
         at: c.at,
         j: c.j,
-        word: word,
-        slot: slot,
+        word: c.word,
+        slot: c.slot,
     }
 }
 
@@ -43,17 +41,13 @@ pub fn meta_of(c: Corrected) -> Meta
 pub fn move_up(w: Metas, m: Meta) -> Metas
     ensures { result ≡ moved w m }
 {
-    let second = w.second;
-    let third = w.third;
-    let fourth = w.fourth;
-    let fifth = w.fifth;
     Metas {
-        count: w.count,
-        first: second,
-        second: third,
-        third: fourth,
-        fourth: fifth,
+        first: w.second,
+        second: w.third,
+        third: w.fourth,
+        fourth: w.fifth,
         fifth: m,
+        ..w
     }
 }
 
@@ -73,24 +67,19 @@ pub fn in_range(w: Metas) -> bool
     ensures { result ≡ metas_in_range w }
 {
     let n = w.count;
-    let first = w.first;
-    let second = w.second;
-    let third = w.third;
-    let fourth = w.fourth;
-    let fifth = w.fifth;
     (n <= 5)
-        & place_in_range(n, 0, first)
-        & place_in_range(n, 1, second)
-        & place_in_range(n, 2, third)
-        & place_in_range(n, 3, fourth)
-        & place_in_range(n, 4, fifth)
+        & place_in_range(n, 0, w.first)
+        & place_in_range(n, 1, w.second)
+        & place_in_range(n, 2, w.third)
+        & place_in_range(n, 3, w.fourth)
+        & place_in_range(n, 4, w.fifth)
 }
 
-pub fn last_in_range(last: LastAt) -> bool
+pub fn last_in_range(last: Option<u64>) -> bool
     ensures { result ≡ last_in_range last }
 {
     match last {
-        LastAt::Never => true,
-        LastAt::At(a) => a < 4611686018427387904,
+        None => true,
+        Some(a) => a < 4611686018427387904,
     }
 }

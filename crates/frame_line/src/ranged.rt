@@ -3,7 +3,7 @@ ghost use Rattle.std.specs.Prelude.{◌≡◌, true, ◌<◌};
 ghost use Rattle.frame_line.specs.Line.{placed_at, joined, gap_at};
 ghost use Rattle.frame_line.specs.Ranges.{last_in_range};
 
-use crate::{LastAt, Meta, Metas};
+use crate::{Meta, Metas};
 
 // What stands at place k once m has come behind n others.
 fn placed(n: u32, k: u32, m: Meta, old: Meta) -> Meta
@@ -18,28 +18,23 @@ pub fn join(w: Metas, m: Meta) -> Metas
     ensures { result ≡ joined w m }
 {
     let n = w.count;
-    let first = w.first;
-    let second = w.second;
-    let third = w.third;
-    let fourth = w.fourth;
-    let fifth = w.fifth;
     Metas {
         count: n + 1,
-        first: placed(n, 0, m, first),
-        second: placed(n, 1, m, second),
-        third: placed(n, 2, m, third),
-        fourth: placed(n, 3, m, fourth),
-        fifth: placed(n, 4, m, fifth),
+        first: placed(n, 0, m, w.first),
+        second: placed(n, 1, m, w.second),
+        third: placed(n, 2, m, w.third),
+        fourth: placed(n, 3, m, w.fourth),
+        fifth: placed(n, 4, m, w.fifth),
     }
 }
 
 // Whether a symbol at this position does not follow the last one.
-pub fn gap(last: LastAt, at: u64) -> bool
+pub fn gap(last: Option<u64>, at: u64) -> bool
     requires { last_in_range last ≡ true }
     ensures { result ≡ gap_at last at }
 {
     match last {
-        LastAt::Never => false,
-        LastAt::At(a) => a + 1 != at,
+        None => false,
+        Some(a) => a + 1 != at,
     }
 }

@@ -1,4 +1,5 @@
 -- What the slot map is. Each statement stands above its proof. Assumes nothing.
+use Rattle.std.specs.Prelude.{Ok}
 use mathlib.Core.List.{List, [], ◌∷◌}
 use mathlib.Core.Path.{◌≡◌, refl, ap, ◌∙◌}
 use Prim.Native.Nat.{ℕ, zero, suc, ◌+◌, ◌-◌, ◌*◌, ◌/◌, ◌%◌, ◌≤◌, ◌<◌}
@@ -60,22 +61,22 @@ pub slot_theorem : (j : ℕ) → j < 9296 → OneField fields j
 slot_theorem j h = one_field fields j (omega (arith, h, fields_theorem.1))
 
 -- ---- MAIN INDICES RUN 0..8,975 AND TMCC INDICES 0..263, in the order of the places: index m has this place, and a later place has a later index
-pub main_theorem : (m : ℕ) → m < 8976 → part_of (56 + (m / 136 * 140 + m % 136)) ≡ Main m
+pub main_theorem : (m : ℕ) → m < 8976 → part_of (56 + (m / 136 * 140 + m % 136)) ≡ Ok (Main m)
 main_theorem m h =
     let x = m / 136 * 140 + m % 136 in
     let d : x / 140 ≡ m / 136 = omega (arith, h) in
     let r : x % 140 ≡ m % 136 = omega (arith, h) in
-    part_behind (56 + x) (omega arith) ∙ rw (back x) (main_run x (omega (arith, h)) (omega (arith, r)) ∙ ap Main (omega (arith, d, r)))
+    part_behind (56 + x) (omega arith) ∙ rw (back x) (main_run x (omega (arith, h)) (omega (arith, r)) ∙ ap (λ (k : ℕ). Ok (Main k)) (omega (arith, d, r)))
   where
     back : (x : ℕ) → 56 + x - 56 ≡ x
     back x = omega arith
 
-pub tmcc_theorem : (t : ℕ) → t < 264 → part_of (56 + (t / 4 * 140 + 136 + t % 4)) ≡ Tmcc t
+pub tmcc_theorem : (t : ℕ) → t < 264 → part_of (56 + (t / 4 * 140 + 136 + t % 4)) ≡ Ok (Tmcc t)
 tmcc_theorem t h =
     let x = t / 4 * 140 + 136 + t % 4 in
     let d : x / 140 ≡ t / 4 = omega (arith, h) in
     let r : x % 140 ≡ 136 + t % 4 = omega (arith, h) in
-    part_behind (56 + x) (omega arith) ∙ rw (back x) (tmcc_run x (omega (arith, h)) (omega (arith, r)) ∙ ap Tmcc (omega (arith, d, r)))
+    part_behind (56 + x) (omega arith) ∙ rw (back x) (tmcc_run x (omega (arith, h)) (omega (arith, r)) ∙ ap (λ (k : ℕ). Ok (Tmcc k)) (omega (arith, d, r)))
   where
     back : (x : ℕ) → 56 + x - 56 ≡ x
     back x = omega arith

@@ -1,8 +1,10 @@
 -- "Slot map: 24 sync, 32 pilot, then 66 times 136 main and 4 TMCC."
-use Rattle.std.specs.Prelude.{ℕ, zero, suc, ◌+◌, ◌-◌, ◌≤◌, ◌<◌, length, List, [], ◌∷◌, ltb}
+use Rattle.std.specs.Prelude.{ℕ, zero, suc, ◌+◌, ◌-◌, ◌≤◌, ◌<◌, length, List, [], ◌∷◌, ltb, Result, Ok, Err}
 use Rattle.laws.specs.Choice.{when◌then◌else◌}
+use Rattle.refusal.specs.declared.Refusal.{Refusal}
+use Rattle.refusal.specs.declared.Refusal.TheVariants.{Arithmetic}
 use Rattle.frame_map.specs.declared.SlotPart.{SlotPart}
-use Rattle.frame_map.specs.declared.SlotPart.TheVariants.{Sync, Pilot, Main, Tmcc, Refused}
+use Rattle.frame_map.specs.declared.SlotPart.TheVariants.{Sync, Pilot, Main, Tmcc}
 
 -- the kinds of symbols
 pub data Kind : Type 0 where
@@ -57,11 +59,11 @@ indexed main s j = Main (s.mains + j)
 indexed tmcc s j = Tmcc (s.tmccs + j)
 
 -- place j of the fields, each in turn; "slot index over 9,295" gives 6
-unfoldable pub part_in : List Field → Seen → ℕ → SlotPart
-part_in [] s j = Refused 6
-part_in (f ∷ fs) s j = let rest = part_in fs (also_seen s f) (j - f.size) in when ltb j f.size then indexed f.kind s j else rest
+unfoldable pub part_in : List Field → Seen → ℕ → Result SlotPart Refusal
+part_in [] s j = Err Arithmetic
+part_in (f ∷ fs) s j = let rest = part_in fs (also_seen s f) (j - f.size) in when ltb j f.size then Ok (indexed f.kind s j) else rest
 
-unfoldable pub part_of : ℕ → SlotPart
+unfoldable pub part_of : ℕ → Result SlotPart Refusal
 part_of j = part_in fields none_seen j
 
 -- behind sync and pilots

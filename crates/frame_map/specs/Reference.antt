@@ -1,12 +1,12 @@
 -- "Sync symbols train against word × 724, negated for NotFsync."
-use Rattle.std.specs.Prelude.{ℕ, ◌+◌, ◌*◌, ◌&&◌, List, ltb, ℤ, pos, neg_ℤ, ◌*ℤ◌, get_or}
+use Rattle.refusal.specs.declared.Refusal.TheVariants.{Arithmetic, Words}
+use Rattle.refusal.specs.declared.Refusal.{Refusal}
+use Rattle.std.specs.Prelude.{ℕ, ◌+◌, ◌*◌, ◌&&◌, List, ltb, ℤ, pos, neg_ℤ, ◌*ℤ◌, get_or, Result, Ok, Err}
 use Rattle.laws.specs.Choice.{when◌then◌else◌}
 use Rattle.angles.specs.declared.Symbol.{Symbol}
 use Rattle.sync_corr.specs.Correlate.{ones_of}
 use Rattle.sync_heads.specs.declared.Word.{Word}
 use Rattle.sync_heads.specs.declared.Word.TheVariants.{Ssync, Fsync, NotFsync}
-use Rattle.frame_map.specs.declared.Referred.{Referred}
-use Rattle.frame_map.specs.declared.Referred.TheVariants.{Given, Refused}
 
 -- of an entry of the F word and one of the S word, that of the slot's own word, times 724
 unfoldable pub scaled_of : Word → ℤ → ℤ → ℤ
@@ -23,5 +23,5 @@ reference_of word k f s =
     }
 
 -- 2, an entry of the two words that is not 1 or -1; 6, "sync index over 23"
-unfoldable pub reference_answer : Word → ℕ → List ℤ → List ℤ → Referred
-reference_answer word k f s = when ones_of f && ones_of s then when ltb k 24 then Given (reference_of word k f s) else Refused 6 else Refused 2
+unfoldable pub reference_answer : Word → ℕ → List ℤ → List ℤ → Result Symbol Refusal
+reference_answer word k f s = when ones_of f && ones_of s then when ltb k 24 then Ok (reference_of word k f s) else Err Arithmetic else Err Words

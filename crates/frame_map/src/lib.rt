@@ -8,6 +8,7 @@ ghost use Rattle.frame_map.specs.Map.{part_of};
 ghost use Rattle.frame_map.specs.Reference.{reference_answer};
 
 use angles::Symbol;
+use refusal::Refusal;
 use sync_heads::Word;
 
 // What stands at a place of the slot, with its index among those of its kind.
@@ -17,36 +18,27 @@ pub enum SlotPart {
     Pilot(u16),
     Main(u16),
     Tmcc(u16),
-    Refused(u8),
 }
 
-#[derive(Clone, Copy)]
-pub enum Referred {
-    Given(Symbol),
-    Refused(u8),
-}
-
-pub fn part(j: usize) -> SlotPart
+pub fn part(j: usize) -> Result<SlotPart, Refusal>
     ensures { result ≡ part_of j }
 {
     if j < 9296 {
-        ranged::part(j)
+        Ok(ranged::part(j))
     } else {
-        SlotPart::Refused(6)
+        Err(Refusal::Arithmetic)
     }
 }
 
 // What sync symbol k of a slot with this word is trained against.
-pub fn reference(word: Word, k: usize, f: [i8; 48], s: [i8; 48]) -> Referred
+pub fn reference(word: Word, k: usize, f: [i8; 48], s: [i8; 48]) -> Result<Symbol, Refusal>
     ensures { result ≡ reference_answer word k f s }
 {
-    if sync_corr::plain::ones(&f) & sync_corr::plain::ones(&s) {
-        if k < 24 {
-            Referred::Given(ranged::reference(word, k, &f, &s))
-        } else {
-            Referred::Refused(6)
-        }
-    } else {
-        Referred::Refused(2)
+    if !(sync_corr::plain::ones(&f) & sync_corr::plain::ones(&s)) {
+        return Err(Refusal::Words);
     }
+    if 24 <= k {
+        return Err(Refusal::Arithmetic);
+    }
+    Ok(ranged::reference(word, k, &f, &s))
 }

@@ -1,5 +1,5 @@
 // For the entries and the receiver, which prove the ranges.
-ghost use Rattle.std.specs.Prelude.{◌≡◌, true, ◌≤◌, ◌<◌, nat_abs};
+ghost use Rattle.std.specs.Prelude.{◌≡◌, true, ◌≤◌, ◌<◌, nat_abs, Ok};
 ghost use Rattle.sync_corr.specs.Correlate.{ones_of};
 ghost use Rattle.frame_map.specs.Map.{part_in, runs, start_seen, part_of};
 ghost use Rattle.frame_map.specs.Reference.{scaled_of, reference_of};
@@ -11,7 +11,7 @@ use sync_heads::Word;
 // The part of place x behind sync and pilots: 66 times 136 main and 4 TMCC symbols.
 fn behind(x: usize) -> SlotPart
     requires { x < 9240 }
-    ensures { result ≡ part_in (runs 66) start_seen x }
+    ensures { Ok result ≡ part_in (runs 66) start_seen x }
 {
     let r = x / 140;
     let p = x % 140;
@@ -22,9 +22,9 @@ fn behind(x: usize) -> SlotPart
     }
 }
 
-pub(crate) fn part(j: usize) -> SlotPart
+pub fn part(j: usize) -> SlotPart
     requires { j < 9296 }
-    ensures { result ≡ part_of j }
+    ensures { Ok result ≡ part_of j }
 {
     if j < 24 {
         SlotPart::Sync(j as u16)

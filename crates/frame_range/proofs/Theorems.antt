@@ -1,4 +1,5 @@
 -- Calls keep what is true of an alignment from new on. Each statement stands above its proof. Assumes nothing.
+use Rattle.std.specs.Prelude.{Option, None, Some, Ok}
 use Prim.Native.Nat.{ℕ, ◌+◌, ◌*◌, ◌^◌, ◌≤◌, ◌<◌}
 use native.Mathlib.Omega.{arith}
 use mathlib.Core.Bool.{Bool, true, false, not, ◌&&◌, ◌||◌}
@@ -13,6 +14,7 @@ use mir.Val.{SFits}
 use Rattle.laws.specs.Choice.{when◌then◌else◌}
 use Rattle.laws.proofs.Tests.{by_test, and_both, if_both, if_either}
 use Rattle.laws.proofs.Size.{Num, times, less, lit, fits}
+use Rattle.refusal.proofs.Answered.{answered_either}
 use Rattle.sync_corr.specs.Correlate.{ones_of}
 use Rattle.sync_heads.specs.declared.Word.{Word}
 use Rattle.sync_heads.specs.declared.Word.TheVariants.{Ssync, Fsync, NotFsync}
@@ -20,19 +22,17 @@ use Rattle.phase.specs.declared.Corrected.{Corrected}
 use Rattle.eq.specs.declared.Equaliser.{Equaliser}
 use Rattle.eq.specs.Eq.{started_eq, new_eq, pushed_eq, trains_eq, trained_eq, with_sums}
 use Rattle.eq_range.specs.Coherent.{Coherent}
-use Rattle.eq_range.proofs.Kept.{started_coherent, pushed_coherent, trained_coherent, coherent_in_range, refusal_0}
+use Rattle.eq_range.proofs.Kept.{started_coherent, pushed_coherent, trained_coherent, coherent_in_range, no_refusal}
 use Rattle.frame_map.specs.Reference.{scaled_of, reference_of}
 use Rattle.frame_map.proofs.Laws.{part_sync, entry-one}
 use Rattle.frame_line.specs.declared.Meta.{Meta}
 use Rattle.frame_line.specs.declared.Metas.{Metas}
-use Rattle.frame_line.specs.declared.LastAt.{LastAt}
-use Rattle.frame_line.specs.declared.LastAt.TheVariants.{Never, At}
 use Rattle.frame_line.specs.Line.{blank, no_metas, meta_of, placed_at, joined, moved, gap_at}
 use Rattle.frame_line.specs.Ranges.{meta_in_range, place_in_range, metas_in_range, last_in_range}
 use Rattle.frame.specs.declared.Back.{Back}
 use Rattle.frame.specs.Align.{started_back, new_back, restarted_back, joined_to, trained_part, trained_at, taken_by, pushed_back}
 use Rattle.frame.specs.Ranges.{back_in_range, MetaOk, TakeOk}
-use Rattle.frame.specs.Answers.{push_refusal, push_answer}
+use Rattle.frame.specs.Answers.{push_refusal, push_answer, back_of}
 use Rattle.frame.proofs.Laws.{untrained, accepted, push_ok}
 use Rattle.frame_range.specs.Coherent.{is_there, up_to, CoherentBack, Short, AllShort, none, also, back_after}
 
@@ -154,7 +154,7 @@ trained_kept e m f s c ok =
     (trained_coherent e _ _ c
     (scaled_fits m.word _ _ (one f ok.first (2 * a) (omega (arith, l))) (one s ok.second (2 * a) (omega (arith, l))))
     (scaled_fits m.word _ _ (one f ok.first (2 * a + 1) (omega (arith, l))) (one s ok.second (2 * a + 1) (omega (arith, l))))
-    (refusal_0 e (coherent_in_range e c) free)))
+    (no_refusal e (coherent_in_range e c) free)))
     (λ t. rw (untrained e m f s (ltb-false m.j 24 t)) c)
 
 pub trained_filled : (e : Equaliser) (m : Meta) (f s : List ℤ) → (trained_at e m f s).filled ≡ e.filled
@@ -174,7 +174,7 @@ unfolding joined_to
 joined_coherent b at c = if_both CoherentBack (gap_at b.last at) (restarted_back b) b (restarted_coherent b) c
 
 -- ---- one symbol
-waits : (k : ℕ) (c : Corrected) → k ≤ c.at → leb c.j 9295 ≡ true → last_in_range (At c.at) ≡ true → meta_in_range k (meta_of c) ≡ true
+waits : (k : ℕ) (c : Corrected) → k ≤ c.at → leb c.j 9295 ≡ true → last_in_range (Some c.at) ≡ true → meta_in_range k (meta_of c) ≡ true
 unfolding meta_in_range meta_of last_in_range
 waits k c a j l = rw (le-leb k c.at a, j, l)
 
@@ -183,11 +183,11 @@ joined-before : (b : Back) (at : ℕ) → CoherentBack b → (joined_to b at).me
 unfolding joined_to restarted_back started_back no_metas up_to gap_at
 joined-before b at k = if_either (λ (x : Back). x.metas.count ≤ at) (gap_at b.last at) _ b (λ t. omega arith) (λ t. before b.last k.adjoin t)
   where
-    before : (l : LastAt) → b.metas.count ≤ up_to l → gap_at l at ≡ false → b.metas.count ≤ at
-    before Never h t = omega (arith, h)
-    before (At a) h t = omega (arith, h, eqb-true (a + 1) at (not_false (eqb (a + 1) at) t))
+    before : (l : Option ℕ) → b.metas.count ≤ up_to l → gap_at l at ≡ false → b.metas.count ≤ at
+    before None h t = omega (arith, h)
+    before (Some a) h t = omega (arith, h, eqb-true (a + 1) at (not_false (eqb (a + 1) at) t))
 
-taken_coherent : (b : Back) (c : Corrected) (f s : List ℤ) → CoherentBack b → Short c → b.metas.count ≤ c.at → leb c.j 9295 ≡ true → last_in_range (At c.at) ≡ true → TakeOk b c f s → CoherentBack (taken_by b c f s).back
+taken_coherent : (b : Back) (c : Corrected) (f s : List ℤ) → CoherentBack b → Short c → b.metas.count ≤ c.at → leb c.j 9295 ≡ true → last_in_range (Some c.at) ≡ true → TakeOk b c f s → CoherentBack (taken_by b c f s).back
 unfolding taken_by joined moved pushed_eq when◌then◌else◌ is_there up_to
 taken_coherent b c f s k y ha hj hl ok =
     let e = pushed_eq b.eq c.y.i c.y.q in
@@ -219,7 +219,7 @@ taken_coherent b c f s k y ha hj hl ok =
 below : (n m : ℕ) → leb m n ≡ false → ltb n m ≡ true
 below n m h = lt-ltb n m (leb-false m n h)
 
-pushed_coherent_back : (b : Back) (c : Corrected) (f s : List ℤ) → CoherentBack b → Short c → push_refusal b c f s ≡ 0 → CoherentBack (pushed_back b c f s).back
+pushed_coherent_back : (b : Back) (c : Corrected) (f s : List ℤ) → CoherentBack b → Short c → push_refusal b c f s ≡ Ok tt → CoherentBack (pushed_back b c f s).back
 unfolding pushed_back last_in_range
 pushed_coherent_back b c f s k y h =
     let a = accepted b c f s h in
@@ -228,15 +228,15 @@ pushed_coherent_back b c f s k y h =
     taken_coherent (joined_to b c.at) c f s (joined_coherent b c.at k) y (joined-before b c.at k) j t (push_ok b c f s h).taken
 
 -- ---- EVERY PUSH KEEPS IT, a refused one too; over any list of pushes with the same words
-pub push_keeps : (b : Back) (c : Corrected) (f s : List ℤ) → CoherentBack b → Short c → CoherentBack (push_answer b c f s).back
-unfolding push_answer when◌then◌else◌
+pub push_keeps : (b : Back) (c : Corrected) (f s : List ℤ) → CoherentBack b → Short c → CoherentBack (back_of (push_answer b c f s))
+unfolding push_answer
 push_keeps b c f s k y =
-    by_test (eqb (push_refusal b c f s) 0) (λ t. rw t (pushed_coherent_back b c f s k y (eqb-true (push_refusal b c f s) 0 t))) (λ t. rw t k)
+    answered_either (λ r. CoherentBack (back_of r)) (push_refusal b c f s) b (pushed_back b c f s) (λ t. pushed_coherent_back b c f s k y t) (λ why t. k)
 
 pub calls_keep : (b : Back) (cs : List Corrected) (f s : List ℤ) → CoherentBack b → AllShort cs → CoherentBack (back_after b cs f s)
 unfolding back_after
 calls_keep b [] f s k none = k
-calls_keep b (c ∷ cs) f s k (also y ys) = calls_keep (push_answer b c f s).back cs f s (push_keeps b c f s k y) ys
+calls_keep b (c ∷ cs) f s k (also y ys) = calls_keep (back_of (push_answer b c f s)) cs f s (push_keeps b c f s k y) ys
 
 pub new_coherent : CoherentBack new_back
 unfolding new_back restarted_back started_back new_eq started_eq

@@ -1,23 +1,21 @@
 -- What is true together of the numbers of an alignment that came from calls: docs/RANGES.md, "Alignment".
-use Rattle.std.specs.Prelude.{ℕ, ◌+◌, ◌≤◌, Bool, true, false, List, [], ◌∷◌, ◌≡◌, ltb, ℤ}
+use Rattle.std.specs.Prelude.{ℕ, ◌+◌, ◌≤◌, Bool, true, false, List, [], ◌∷◌, ◌≡◌, ltb, ℤ, Option, None, Some}
 use Rattle.std.specs.Int.{w16}
 use Rattle.std.proofs.Common.{SFits}
 use Rattle.phase.specs.declared.Corrected.{Corrected}
 use Rattle.eq_range.specs.Coherent.{Coherent}
-use Rattle.frame_line.specs.declared.LastAt.{LastAt}
-use Rattle.frame_line.specs.declared.LastAt.TheVariants.{Never, At}
 use Rattle.frame_line.specs.Ranges.{metas_in_range, last_in_range}
 use Rattle.frame.specs.declared.Back.{Back}
-use Rattle.frame.specs.Answers.{push_answer}
+use Rattle.frame.specs.Answers.{push_answer, back_of}
 
-unfoldable pub is_there : LastAt → Bool
-is_there Never = false
-is_there (At a) = true
+unfoldable pub is_there : Option ℕ → Bool
+is_there None = false
+is_there (Some a) = true
 
 -- how many positions there are up to the last
-unfoldable pub up_to : LastAt → ℕ
-up_to Never = 0
-up_to (At a) = a + 1
+unfoldable pub up_to : Option ℕ → ℕ
+up_to None = 0
+up_to (Some a) = a + 1
 
 pub record CoherentBack (b : Back) : Type 0 where
   pub eq : Coherent b.eq
@@ -42,4 +40,4 @@ pub data AllShort : List Corrected → Type 0 where
 -- the back that pushes leave, refused ones among them
 unfoldable pub back_after : Back → List Corrected → List ℤ → List ℤ → Back
 back_after b [] f s = b
-back_after b (c ∷ cs) f s = back_after (push_answer b c f s).back cs f s
+back_after b (c ∷ cs) f s = back_after (back_of (push_answer b c f s)) cs f s

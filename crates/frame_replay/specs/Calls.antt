@@ -1,9 +1,12 @@
 -- What each call answers and leaves, by the definitions of frame.
-use Rattle.std.specs.Prelude.{ℕ, List}
+use Rattle.frame.specs.declared.AlignedSymbol.{AlignedSymbol}
+use Rattle.std.specs.Prelude.{ℕ, List, Option, None, Some, Result, Ok, Err}
+use Rattle.refusal.specs.Refusals.{number_of}
+use Rattle.refusal.specs.declared.Refused.{Refused}
+use Rattle.frame.specs.declared.Back.{Back}
+use Rattle.frame.specs.declared.Pushed.{Pushed}
 use Rattle.frame_line.specs.declared.Meta.{Meta}
 use Rattle.frame_line.specs.Line.{blank, moved}
-use Rattle.frame.specs.declared.Aligned.{Aligned}
-use Rattle.frame.specs.declared.Aligned.TheVariants.{Nothing, Given}
 use Rattle.frame.specs.Align.{new_back}
 use Rattle.frame.specs.Answers.{restart_answer, push_answer}
 use Rattle.wire.specs.Wire.{bits, packed_of}
@@ -24,10 +27,10 @@ no_meta = blank
 unfoldable pub plain : Kept → ℕ → Turn
 plain k refusal = turned k (told_of k refusal 0 no_meta 0 0)
 
--- .. and a symbol that there may be
-unfoldable pub out_told : Kept → ℕ → Aligned → Turn
-out_told k refusal Nothing = plain k refusal
-out_told k refusal (Given a) = turned k (told_of k refusal 1 a.meta (bits a.z.i) (bits a.z.q))
+-- an accepted call, with a symbol that there may be
+unfoldable pub out_told : Kept → Option AlignedSymbol → Turn
+out_told k None = plain k 0
+out_told k (Some a) = turned k (told_of k 0 1 a.meta (bits a.z.i) (bits a.z.q))
 
 -- ---- the field `eq`: the calls of eq_calls, with their answers
 unfoldable pub eq_call : ℕ → Kept → List ℕ → Turn
@@ -39,12 +42,20 @@ eq_call op k p =
 unfoldable pub new_call : Kept → Turn
 new_call k = plain (with_back k new_back) 0
 
+abbrev pub restarted_turn : Kept → Result Back (Refused Back) → Turn
+restarted_turn k (Ok back) = plain (with_back k back) 0
+restarted_turn k (Err refused) = plain (with_back k refused.state) (number_of refused.why)
+
 unfoldable pub restart_call : Kept → Turn
-restart_call k = let r = restart_answer k.back in plain (with_back k r.back) r.refusal
+restart_call k = restarted_turn k (restart_answer k.back)
 
 -- a corrected symbol, with the words that are kept
+abbrev pub pushed_turn : Kept → Result Pushed (Refused Back) → Turn
+pushed_turn k (Ok pushed) = out_told (with_back k pushed.back) pushed.out
+pushed_turn k (Err refused) = plain (with_back k refused.state) (number_of refused.why)
+
 unfoldable pub push_call : Kept → List ℕ → Turn
-push_call k p = let r = push_answer k.back (corrected_of p) k.f k.s in out_told (with_back k r.back) r.refusal r.out
+push_call k p = pushed_turn k (push_answer k.back (corrected_of p) k.f k.s)
 
 -- other words: the bytes of numbers 1 to 6, and 7 to 12
 unfoldable pub words_call : Kept → List ℕ → Turn

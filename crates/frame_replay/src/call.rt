@@ -41,6 +41,6 @@ pub(crate) fn replace(k: Kept, buf: &mut [u8], at: usize) -> Kept
     let t = turn(p[0], k, &p);
     let a = t.told;
     let bytes = wire::packed(&a);
-    wire::streams::put(&bytes, buf, at);
+    wire::ranged::put(&bytes, buf, at);
     t.kept
 }

@@ -5,8 +5,9 @@ ghost use Rattle.frame_replay.specs.Calls.{no_meta, plain, out_told, eq_call, ne
 use crate::kept::{Kept, Turn};
 use crate::{given, kept, told};
 use eq_calls::kept::Kept as EqKept;
-use frame::Aligned;
+use frame::AlignedSymbol;
 use frame_line::Meta;
+use wire::Field;
 
 fn no_meta() -> Meta
     ensures { result ≡ no_meta }
@@ -24,17 +25,17 @@ pub(crate) fn plain(k: Kept, refusal: u8) -> Turn
     kept::turned(k, t)
 }
 
-fn out_told(k: Kept, refusal: u8, out: Aligned) -> Turn
-    ensures { result ≡ out_told k refusal out }
+fn out_told(k: Kept, out: Option<AlignedSymbol>) -> Turn
+    ensures { result ≡ out_told k out }
 {
     match out {
-        Aligned::Nothing => plain(k, refusal),
-        Aligned::Given(a) => {
+        None => plain(k, 0),
+        Some(a) => {
             let m = a.meta;
             let z = a.z;
-            let i = wire::bits16(z.i);
-            let q = wire::bits16(z.q);
-            let t = told::told(k, refusal, 1, m, i, q);
+            let i = z.i.to_bits();
+            let q = z.q.to_bits();
+            let t = told::told(k, 0, 1, m, i, q);
             kept::turned(k, t)
         }
     }
@@ -65,25 +66,20 @@ pub(crate) fn new(k: Kept) -> Turn
 pub(crate) fn restart(k: Kept) -> Turn
     ensures { result ≡ restart_call k }
 {
-    let b = k.back;
-    let r = frame::restart(b);
-    let c = r.back;
-    let n = kept::with_back(k, c);
-    plain(n, r.refusal)
+    match frame::restart(k.back) {
+        Ok(back) => plain(kept::with_back(k, back), 0),
+        Err(refused) => plain(kept::with_back(k, refused.state), refused.why.number()),
+    }
 }
 
 pub(crate) fn push(k: Kept, p: &[u64; 24]) -> Turn
     ensures { result ≡ push_call k p.now }
 {
-    let b = k.back;
-    let f = k.f;
-    let s = k.s;
     let c = given::corrected_at(p);
-    let r = frame::push(b, c, f, s);
-    let d = r.back;
-    let out = r.out;
-    let n = kept::with_back(k, d);
-    out_told(n, r.refusal, out)
+    match frame::push(k.back, c, k.f, k.s) {
+        Ok(r) => out_told(kept::with_back(k, r.back), r.out),
+        Err(refused) => plain(kept::with_back(k, refused.state), refused.why.number()),
+    }
 }
 
 // Other words, six numbers each.

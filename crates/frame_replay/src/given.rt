@@ -4,14 +4,15 @@ ghost use Rattle.frame_replay.specs.Given.{symbol_of, corrected_of};
 
 use angles::Symbol;
 use phase::Corrected;
+use wire::Field;
 
 fn symbol_at(p: &[u64; 24], k: usize) -> Symbol
     requires { k + 2 ≤ 24 }
     ensures { result ≡ symbol_of p.now k }
 {
     Symbol {
-        i: wire::signed16(p[k]),
-        q: wire::signed16(p[k + 1]),
+        i: i16::of_bits(p[k]),
+        q: i16::of_bits(p[k + 1]),
     }
 }
 
@@ -30,8 +31,8 @@ pub(crate) fn corrected_at(p: &[u64; 24]) -> Corrected
         slot: s,
         j: m.j,
         r: r,
-        phi: wire::low32(p[9]),
-        gain: wire::of_bits(p[10]),
+        phi: u32::of_bits(p[9]),
+        gain: i64::of_bits(p[10]),
         y: y,
     }
 }

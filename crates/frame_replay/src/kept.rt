@@ -4,7 +4,7 @@ ghost use Rattle.frame_replay.specs.Kept.{with_back, with_eq, with_line, with_wo
 
 use eq::Equaliser;
 use frame::Back;
-use frame_line::{LastAt, Metas};
+use frame_line::Metas;
 use sums::Sums;
 
 // The sums are those that a solving is asked of.
@@ -60,7 +60,7 @@ pub(crate) fn with_eq(k: Kept, e: Equaliser, t: Sums) -> Kept
 }
 
 // Other symbols that wait, and another last position.
-pub(crate) fn with_line(k: Kept, w: Metas, last: LastAt) -> Kept
+pub(crate) fn with_line(k: Kept, w: Metas, last: Option<u64>) -> Kept
     ensures { result ≡ with_line k w last }
 {
     let b = k.back;

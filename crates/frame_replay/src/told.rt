@@ -25,8 +25,8 @@ fn eq_shown(e: Equaliser) -> EqShown
     let taps = e.taps;
     let from = e.from;
     let sums = e.sums;
-    let a = digest::of_i16(&line);
-    let b = digest::of_i16(&taps);
+    let a = digest::of(&line);
+    let b = digest::of(&taps);
     let c = eq_calls::told::from_shown(from);
     let o = fields::flag(e.opened);
     let d = eq_calls::told::sums_shown(sums);

@@ -6,7 +6,8 @@ pub mod ranged;
 ghost use Rattle.std.specs.Prelude.{◌≡◌};
 ghost use Rattle.frame_wire.specs.Line.{last_of, count_put, last_shown};
 
-use frame_line::{LastAt, Metas};
+use frame_line::Metas;
+use wire::Field;
 
 // Whether there is a last position, and that position.
 #[derive(Clone, Copy)]
@@ -15,24 +16,20 @@ pub struct LastShown {
     pub at: u64,
 }
 
-pub fn last_shown(l: LastAt) -> LastShown
+pub fn last_shown(l: Option<u64>) -> LastShown
     ensures { result ≡ last_shown l }
 {
     match l {
-        LastAt::Never => LastShown { known: 0, at: 0 },
-        LastAt::At(a) => LastShown { known: 1, at: a },
+        None => LastShown { known: 0, at: 0 },
+        Some(a) => LastShown { known: 1, at: a },
     }
 }
 
 // The last position, of numbers 2 and 3.
-pub fn last_at(p: &[u64; 24]) -> LastAt
+pub fn last_at(p: &[u64; 24]) -> Option<u64>
     ensures { result ≡ last_of p.now }
 {
-    if p[2] == 0 {
-        LastAt::Never
-    } else {
-        LastAt::At(p[3])
-    }
+    if p[2] == 0 { None } else { Some(p[3]) }
 }
 
 // As many symbols that wait as number 1 tells.
@@ -44,7 +41,7 @@ pub fn count_put(w: Metas, p: &[u64; 24]) -> Metas
     let third = w.third;
     let fourth = w.fourth;
     let fifth = w.fifth;
-    let count = wire::low32(p[1]);
+    let count = u32::of_bits(p[1]);
     Metas {
         count: count,
         first: first,

@@ -3,6 +3,7 @@ ghost use Rattle.std.specs.Prelude.{◌≡◌, ◌+◌, ◌≤◌};
 ghost use Rattle.frame_wire.specs.Line.{meta_at};
 
 use frame_line::Meta;
+use wire::Field;
 
 // The symbol that waits of the six numbers from k on.
 pub fn meta_at(p: &[u64; 24], k: usize) -> Meta
@@ -13,7 +14,7 @@ pub fn meta_at(p: &[u64; 24], k: usize) -> Meta
     let s = slot_wire::ranged::slot_at(p, k + 2);
     Meta {
         at: p[k],
-        j: fields::low16(p[k + 5]),
+        j: u16::of_bits(p[k + 5]),
         word: w,
         slot: s,
     }

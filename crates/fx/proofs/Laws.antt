@@ -1,10 +1,13 @@
 -- Laws of the definitions of fx that its proofs cite. Assumes nothing.
 -- a number above 0 is its size
-use Rattle.std.proofs.Common.{◌≡◌, ℕ, zero, suc, ◌+◌, ◌-◌, ◌*◌, ◌%◌, ◌^◌, ◌<◌, ◌≤◌, Bool, true, false, not, ℤ, pos, negsuc, ◌+ℤ◌, ◌-ℤ◌, nat_abs, refl, ap, ◌∙◌, not-suc-le-zero, pow-suc, sub-one, arith, ltb-false, leb-false}
-use lib.Signed.{lt_z}
+use Rattle.std.proofs.Common.{◌≡◌, ℕ, zero, suc, ◌+◌, ◌-◌, ◌*◌, ◌%◌, ◌^◌, ◌<◌, ◌≤◌, Bool, true, false, not, ℤ, pos, negsuc, ◌+ℤ◌, ◌-ℤ◌, ◌*ℤ◌, nat_abs, refl, ap, ◌∙◌, not-suc-le-zero, pow-suc, sub-one, arith, ltb-false, leb-false}
+use Rattle.std.proofs.lemmas.Int.{ints}
+use Rattle.std.specs.Int.{int_div_euclid, int_max, int_min}
+use Rattle.std.specs.Prelude.{cond, max, ◌≤ℤ◌}
+use lib.Signed.{lt_z, mag, shr_z}
 use Rattle.fx.specs.Answers.{wide, outside}
 use Rattle.fx.specs.Cordic.{cordic_step}
-use Rattle.fx.specs.Fx.{floor_div, half_up}
+use Rattle.fx.specs.Fx.{floor_div, half_up, clamp}
 use Rattle.fx.specs.declared.Turn.{Turn}
 use Rattle.laws.proofs.Floor.{floor_twice}
 use Rattle.laws.proofs.Linear.{eq_ud, sum_ud}
@@ -54,3 +57,30 @@ pub step_parts : (t : Turn) (i a : ℕ) →
     }) (cordic_step t i a)
 unfolding cordic_step
 step_parts t i a = by_parts (lt_z (pos 0) t.y) _ _ _ _ _ _
+
+-- ---- the library's clamp, in the definition's words
+upper : (t : Bool) (m n k : ℕ) → cond (lt_z (cond t (pos n) (pos k)) (negsuc m)) (negsuc m) (cond t (pos n) (pos k)) ≡ (when false then negsuc m else when t then pos n else pos k)
+unfolding when◌then◌else◌
+upper true m n k = refl
+upper false m n k = refl
+
+lower : (t : Bool) (a b c : ℤ) → cond t a c ≡ (when t then a else when false then b else c)
+unfolding when◌then◌else◌
+lower true a b c = refl
+lower false a b c = refl
+
+pub clamped : (m n : ℕ) (v : ℤ) → int_max (negsuc m) (int_min v (pos n)) ≡ clamp (negsuc m) (pos n) v
+clamped m n (pos k) = upper (lt_z (pos n) (pos k)) m n k
+clamped m n (negsuc k) = lower (lt_z (negsuc k) (negsuc m)) (negsuc m) (pos n) (negsuc k)
+
+-- .. and its size
+pub in_bounds : (m n : ℕ) (r : ℤ) → negsuc m ≤ℤ r → r ≤ℤ pos n → mag r ≤ max m n
+in_bounds m n r g h = grind (arith, ints)
+
+-- ---- the library's floor
+pub div_is : (z : ℤ) (m : ℕ) → int_div_euclid z (pos m) ≡ shr_z z m
+div_is (pos a) m = refl
+div_is (negsuc a) m = refl
+
+pub twice_of : (b : ℤ) → lt_z b (pos 1) ≡ false → pos 2 *ℤ b ≡ pos (2 * nat_abs b)
+twice_of b t = ap (λ (z : ℤ). pos 2 *ℤ z) (pos_of b t)

@@ -8,43 +8,15 @@ mod sizes;
 mod turns;
 
 ghost use Rattle.std.specs.Prelude.{◌≡◌};
-ghost use Rattle.fx.specs.Fx.{sat32_of, signed_angle};
+ghost use Rattle.fx.specs.Fx.{signed_angle};
 ghost use Rattle.fx.specs.Answers.{round_shift_answer, div_round_answer, mag_approx_answer, sat16_answer, sat127_answer, sat32_answer, cordic_answer, cordic_scale_answer, cos_sin_trunc_answer, cos_sin_round_answer};
 
-#[derive(Clone, Copy)]
-pub enum Whole {
-    Value(i64),
-    Refused(u8),
-}
-
-#[derive(Clone, Copy)]
-pub enum Whole32 {
-    Value(i32),
-    Refused(u8),
-}
-
-#[derive(Clone, Copy)]
-pub enum Whole16 {
-    Value(i16),
-    Refused(u8),
-}
-
-#[derive(Clone, Copy)]
-pub enum Whole8 {
-    Value(i8),
-    Refused(u8),
-}
+use refusal::Refusal;
 
 #[derive(Clone, Copy)]
 pub struct Polar {
     pub angle: u32,
     pub size: i64,
-}
-
-#[derive(Clone, Copy)]
-pub enum Turned {
-    To(Polar),
-    Refused(u8),
 }
 
 // A point on its way through the CORDIC: its parts, and the angle turned so far.
@@ -62,124 +34,100 @@ pub struct Parts {
 }
 
 #[derive(Clone, Copy)]
-pub enum Scaled {
-    By(Parts),
-    Refused(u8),
-}
-
-#[derive(Clone, Copy)]
 pub struct CosSin {
     pub cos: i64,
     pub sin: i64,
 }
 
-#[derive(Clone, Copy)]
-pub enum Phasor {
-    At(CosSin),
-    Refused(u8),
-}
-
 // v / 2^s, halves rounded up.
-pub fn round_shift(v: i64, s: u32) -> Whole
+pub fn round_shift(v: i64, s: u32) -> Result<i64, Refusal>
     ensures { result ≡ round_shift_answer v s }
 {
     if 60 < s {
-        Whole::Refused(6)
+        Err(Refusal::Arithmetic)
     } else if sizes::wide(v) {
-        Whole::Refused(6)
+        Err(Refusal::Arithmetic)
     } else {
-        Whole::Value(ranged::round_shift(v, s))
+        Ok(ranged::round_shift(v, s))
     }
 }
 
 // a / b, halves rounded up.
-pub fn div_round(a: i64, b: i64) -> Whole
+pub fn div_round(a: i64, b: i64) -> Result<i64, Refusal>
     ensures { result ≡ div_round_answer a b }
 {
     if b < 1 {
-        Whole::Refused(6)
+        Err(Refusal::Arithmetic)
     } else if sizes::wide2(a, b) {
-        Whole::Refused(6)
+        Err(Refusal::Arithmetic)
     } else {
-        Whole::Value(ranged::div_round(a, b))
+        Ok(ranged::div_round(a, b))
     }
 }
 
 // v saturated to 16 bits.
-pub fn sat16(v: i64) -> Whole16
+pub fn sat16(v: i64) -> Result<i16, Refusal>
     ensures { result ≡ sat16_answer v }
 {
     if sizes::wide(v) {
-        Whole16::Refused(6)
+        Err(Refusal::Arithmetic)
     } else {
-        Whole16::Value(plain::sat16(v))
+        Ok(plain::sat16(v))
     }
 }
 
 // v saturated to a soft bit.
-pub fn sat127(v: i64) -> Whole8
+pub fn sat127(v: i64) -> Result<i8, Refusal>
     ensures { result ≡ sat127_answer v }
 {
     if sizes::wide(v) {
-        Whole8::Refused(6)
+        Err(Refusal::Arithmetic)
     } else {
-        Whole8::Value(plain::sat127(v))
+        Ok(plain::sat127(v))
     }
 }
 
 // v saturated to 32 bits.
-pub fn sat32(v: i64) -> Whole32
+pub fn sat32(v: i64) -> Result<i32, Refusal>
     ensures { result ≡ sat32_answer v }
 {
     if sizes::wide(v) {
-        Whole32::Refused(6)
+        Err(Refusal::Arithmetic)
     } else {
-        Whole32::Value(clamp32(v))
-    }
-}
-
-fn clamp32(v: i64) -> i32
-    ensures { result ≡ sat32_of v }
-{
-    if v < -2147483648 {
-        -2147483648
-    } else if 2147483647 < v {
-        2147483647
-    } else {
-        v as i32
+        Ok(plain::sat32(v))
     }
 }
 
 // The size of re + j im, never under the larger part's.
-pub fn mag_approx(re: i64, im: i64) -> Whole
+pub fn mag_approx(re: i64, im: i64) -> Result<i64, Refusal>
     ensures { result ≡ mag_approx_answer re im }
 {
     if sizes::wide2(re, im) {
-        Whole::Refused(6)
+        Err(Refusal::Arithmetic)
     } else {
-        Whole::Value(ranged::mag_approx(re, im))
+        Ok(ranged::mag_approx(re, im))
     }
 }
 
 // The angle and the size of re + j im.
-pub fn cordic(re: i64, im: i64) -> Turned
+pub fn cordic(re: i64, im: i64) -> Result<Polar, Refusal>
     ensures { result ≡ cordic_answer re im }
 {
     if sizes::outside2(re, im) {
-        Turned::Refused(6)
+        Err(Refusal::Arithmetic)
     } else {
-        Turned::To(ranged::cordic(re, im))
+        Ok(ranged::cordic(re, im))
     }
 }
 
 // re and im shifted into the CORDIC's range; good for the angle alone.
-pub fn cordic_scale(re: i64, im: i64) -> Scaled
+pub fn cordic_scale(re: i64, im: i64) -> Result<Parts, Refusal>
     ensures { result ≡ cordic_scale_answer re im }
 {
     if sizes::wide2(re, im) {
-        Scaled::Refused(6)
+        Err(Refusal::Arithmetic)
     } else {
-        Scaled::By(turns::scale(re, im))
+        Ok(turns::scale(re, im))
     }
 }
 
@@ -195,23 +143,23 @@ pub fn signed_angle(a: u32) -> i64
 }
 
 // Cosine and sine at the table's entry at or before an angle.
-pub fn cos_sin_trunc(table: &[i16], a: u32) -> Phasor
+pub fn cos_sin_trunc(table: &[i16], a: u32) -> Result<CosSin, Refusal>
     ensures { result ≡ cos_sin_trunc_answer table.now a }
 {
     if table.len() == 1024 {
-        Phasor::At(turns::cos_sin_at(table, (a / 4194304) as usize))
+        Ok(turns::cos_sin_at(table, (a / 4194304) as usize))
     } else {
-        Phasor::Refused(3)
+        Err(Refusal::Table)
     }
 }
 
 // Cosine and sine at the entry nearest to an angle.
-pub fn cos_sin_round(table: &[i16], a: u32) -> Phasor
+pub fn cos_sin_round(table: &[i16], a: u32) -> Result<CosSin, Refusal>
     ensures { result ≡ cos_sin_round_answer table.now a }
 {
     if table.len() == 1024 {
-        Phasor::At(ranged::cos_sin_round(table, a))
+        Ok(ranged::cos_sin_round(table, a))
     } else {
-        Phasor::Refused(3)
+        Err(Refusal::Table)
     }
 }

@@ -1,6 +1,6 @@
 // What the crates above share and needs nothing of its caller.
-ghost use Rattle.std.specs.Prelude.{◌≡◌, ◌^◌, ◌<◌};
-ghost use Rattle.fx.specs.Fx.{sat16_of, sat127_of};
+ghost use Rattle.std.specs.Prelude.{◌≡◌};
+ghost use Rattle.fx.specs.Fx.{sat16_of, sat127_of, sat32_of};
 ghost use Rattle.fx.specs.Answers.{wide};
 
 use crate::sizes;
@@ -15,23 +15,17 @@ pub fn wide(v: i64) -> bool
 pub fn sat16(v: i64) -> i16
     ensures { result ≡ sat16_of v }
 {
-    if v < -32768 {
-        -32768
-    } else if 32767 < v {
-        32767
-    } else {
-        v as i16
-    }
+    v.clamp(-32768, 32767) as i16
 }
 
 pub fn sat127(v: i64) -> i8
     ensures { result ≡ sat127_of v }
 {
-    if v < -127 {
-        -127
-    } else if 127 < v {
-        127
-    } else {
-        v as i8
-    }
+    v.clamp(-127, 127) as i8
+}
+
+pub fn sat32(v: i64) -> i32
+    ensures { result ≡ sat32_of v }
+{
+    v.clamp(-2147483648, 2147483647) as i32
 }

@@ -3,7 +3,7 @@ ghost use Rattle.std.specs.Prelude.{◌≡◌, ◌+◌, ◌^◌, ◌<◌, ◌≤
 ghost use Rattle.fx.specs.Fx.{round_shift, div_round, mag_approx, round_index, cos_sin_at};
 ghost use Rattle.fx.specs.Cordic.{cordic_of};
 
-use crate::{CosSin, Polar, sizes, turns};
+use crate::{CosSin, Polar, turns};
 
 pub fn round_shift(v: i64, s: u32) -> i64
     requires { (unsigned_abs v ≤ 2 ^ 60) × (s ≤ 60) }
@@ -20,15 +20,15 @@ pub fn div_round(a: i64, b: i64) -> i64
     requires { (unsigned_abs a ≤ 2 ^ 60) × (unsigned_abs b ≤ 2 ^ 60) × (int_lt b (pos 1) ≡ false) }
     ensures { result ≡ div_round a b }
 {
-    sizes::floor_div(a + a + b, 2 * sizes::size(b))
+    (a + a + b).div_euclid(2 * b)
 }
 
 pub fn mag_approx(re: i64, im: i64) -> i64
     requires { (unsigned_abs re ≤ 2 ^ 60) × (unsigned_abs im ≤ 2 ^ 60) }
     ensures { result ≡ pos (mag_approx re im) }
 {
-    let a = sizes::size(re);
-    let b = sizes::size(im);
+    let a = re.unsigned_abs();
+    let b = im.unsigned_abs();
     if a < b {
         (b + a / 2) as i64
     } else {
@@ -43,10 +43,7 @@ pub fn cordic(re: i64, im: i64) -> Polar
     let t = turns::turned(re, im);
     let x = t.x;
     let size = round_shift(x * 39797, 24);
-    Polar {
-        angle: t.z,
-        size: size,
-    }
+    Polar { angle: t.z, size }
 }
 
 pub fn cos_sin_round(table: &[i16], a: u32) -> CosSin

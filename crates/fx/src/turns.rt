@@ -26,7 +26,7 @@ fn start(re: i64, im: i64) -> Turn
             z: 0x8000_0000,
         }
     } else {
-        Turn { x: x, y: y, z: 0 }
+        Turn { x, y, z: 0 }
     }
 }
 
@@ -70,10 +70,8 @@ pub(crate) fn turned(re: i64, im: i64) -> Turn
 {
     let atan = ATAN;
     let mut t = start(re, im);
-    let mut i: usize = 0;
-    while i < 16 {
+    for i in 0..16 {
         t = step(t, i, atan[i]);
-        i += 1;
     }
     t
 }
@@ -83,20 +81,19 @@ fn under(re: i64, im: i64, s: u32) -> bool
     requires { s < 64 }
     ensures { result ≡ under_at re im s }
 {
-    (sizes::size(re >> s) < sizes::CORDIC_MAX_IN) & (sizes::size(im >> s) < sizes::CORDIC_MAX_IN)
+    ((re >> s).unsigned_abs() < sizes::CORDIC_MAX_IN)
+        & ((im >> s).unsigned_abs() < sizes::CORDIC_MAX_IN)
 }
 
 fn least_shift(re: i64, im: i64) -> u32
     ensures { (result ≡ least_shift re im) × (result ≤ 39) }
 {
-    let mut s: u32 = 0;
-    while s < 39 {
+    for s in 0..39 {
         if under(re, im, s) {
             return s;
         }
-        s += 1;
     }
-    s
+    39
 }
 
 pub(crate) fn scale(re: i64, im: i64) -> Parts

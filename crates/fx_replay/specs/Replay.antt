@@ -2,7 +2,7 @@
 use Rattle.std.specs.Prelude.{ℕ, ◌%◌, ◌^◌, List, [], ◌∷◌, ◌++◌, ℤ, pos, get_or}
 use Rattle.fx.specs.Fx.{signed_angle}
 use Rattle.fx.specs.Answers.{round_shift_answer, div_round_answer, mag_approx_answer, sat16_answer, sat127_answer, sat32_answer, cordic_answer, cordic_scale_answer, cos_sin_trunc_answer, cos_sin_round_answer}
-use Rattle.c_api.specs.Api.{two, none2, number, number32, number16, number8, polar_numbers, part_numbers, phasor_numbers}
+use Rattle.c_api.specs.Api.{two, number, polar_numbers, part_numbers, phasor_numbers}
 use Rattle.c_api.specs.declared.Number.{Number}
 use Rattle.c_api.specs.declared.Numbers.{Numbers}
 use Rattle.wire.specs.Wire.{word_at, signed, bits, bytes_of}
@@ -16,9 +16,9 @@ alone n = record { first = n.value; second = pos 0; refusal = n.refusal }
 abbrev pub answers : List ℤ → ℤ → ℤ → ℕ → ℕ → List Numbers
 answers table x y l m =
     alone (number (round_shift_answer x m))
-    ∷ alone (number16 (sat16_answer x))
-    ∷ alone (number8 (sat127_answer x))
-    ∷ alone (number32 (sat32_answer x))
+    ∷ alone (number (sat16_answer x))
+    ∷ alone (number (sat127_answer x))
+    ∷ alone (number (sat32_answer x))
     ∷ alone (number (mag_approx_answer x y))
     ∷ polar_numbers (cordic_answer x y)
     ∷ part_numbers (cordic_scale_answer x y)
@@ -28,9 +28,13 @@ answers table x y l m =
     ∷ alone (number (div_round_answer x y))
     ∷ []
 
+-- what is told where there is no such function: 255, which is no refusal's number
+abbrev pub no_call : Numbers
+no_call = record { first = pos 0; second = pos 0; refusal = 255 }
+
 -- the answer of function op, or refusal 255 where there is no such function
 unfoldable pub answer_of : List ℤ → ℕ → ℕ → ℕ → Numbers
-answer_of table op a b = get_or (answers table (signed (2 ^ 63) a) (signed (2 ^ 63) b) (a % 2 ^ 32) (b % 2 ^ 32)) op (none2 255)
+answer_of table op a b = get_or (answers table (signed (2 ^ 63) a) (signed (2 ^ 63) b) (a % 2 ^ 32) (b % 2 ^ 32)) op no_call
 
 -- an answer as 24 bytes: refusal, x, y
 unfoldable pub encoded : Numbers → List ℕ

@@ -4,6 +4,7 @@ ghost use Rattle.std.proofs.Math.Seq.{paste};
 ghost use Rattle.fx_replay.specs.Replay.{alone, answer_of, answer_bytes};
 
 use c_api::{Number, Numbers};
+use wire::Field;
 
 // A single value is x; y is 0.
 fn single(n: Number) -> Numbers
@@ -20,10 +21,10 @@ fn single(n: Number) -> Numbers
 fn answer(table: &[i16], op: u64, a: u64, b: u64) -> Numbers
     ensures { result ≡ answer_of table.now op a b }
 {
-    let x = wire::of_bits(a);
-    let y = wire::of_bits(b);
+    let x = i64::of_bits(a);
+    let y = i64::of_bits(b);
     match op {
-        0 => single(c_api::sv_round_shift(x, wire::low32(b))),
+        0 => single(c_api::sv_round_shift(x, u32::of_bits(b))),
         1 => single(c_api::sv_sat16(x)),
         2 => single(c_api::sv_sat127(x)),
         3 => single(c_api::sv_sat32(x)),
@@ -31,12 +32,12 @@ fn answer(table: &[i16], op: u64, a: u64, b: u64) -> Numbers
         5 => c_api::sv_cordic(x, y),
         6 => c_api::sv_cordic_scale(x, y),
         7 => Numbers {
-            first: c_api::sv_signed_angle(wire::low32(a)),
+            first: c_api::sv_signed_angle(u32::of_bits(a)),
             second: 0,
             refusal: 0,
         },
-        8 => c_api::sv_cos_sin_trunc(table, wire::low32(a)),
-        9 => c_api::sv_cos_sin_round(table, wire::low32(a)),
+        8 => c_api::sv_cos_sin_trunc(table, u32::of_bits(a)),
+        9 => c_api::sv_cos_sin_round(table, u32::of_bits(a)),
         10 => single(c_api::sv_div_round(x, y)),
         _ => Numbers {
             first: 0,
@@ -59,7 +60,7 @@ fn answer_bytes(table: &[i16], s: &[u8]) -> [u8; 24]
     );
     let x = a.first;
     let y = a.second;
-    wire::three(a.refusal as u64, wire::to_bits(x), wire::to_bits(y))
+    wire::three(a.refusal as u64, x.to_bits(), y.to_bits())
 }
 
 // The call at `at`, replaced by its answer: both have 24 bytes.
@@ -68,5 +69,5 @@ pub(crate) fn replace(table: &[i16], buf: &mut [u8], at: usize)
     ensures { buf.new ≡ paste buf.old at (answer_bytes table.now (drop at buf.old)) 24 }
 {
     let answer = answer_bytes(table, &buf[at..]);
-    wire::streams::put(&answer, buf, at);
+    wire::ranged::put(&answer, buf, at);
 }

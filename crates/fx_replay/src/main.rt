@@ -15,59 +15,14 @@ use std::io::Write;
 // 1,024 calls.
 const BLOCK: usize = 24576;
 
-// What a block of input leaves to do.
-#[derive(Clone, Copy)]
-enum Next {
-    Block,
-    Nothing,
-    Short,
-}
-
 // Each call of the first n replaced by its answer.
 fn replay(table: &[i16], buf: &mut [u8], n: usize)
     requires { 24 * n ≤ length buf.old }
     ensures { buf.new ≡ replayed table.now n buf.old }
 {
-    let mut i: usize = 0;
-    while i < n {
+    for i in 0..n {
         call::replace(table, buf, 24 * i);
-        i += 1;
     }
-}
-
-// Reads a block of calls and writes their answers.
-fn block(rt: &HostRuntime, table: &[i16], buf: &mut [u8]) -> io::Result<Next> {
-    let got = wire::streams::read_full(&mut rt.stdin(), buf)?;
-    let n = got / 24;
-    let whole = 24 * n;
-    replay(table, buf, n);
-    rt.stdout().write_all(&buf[..whole])?;
-    if whole < got {
-        Ok(Next::Short)
-    } else if got < buf.len() {
-        Ok(Next::Nothing)
-    } else {
-        Ok(Next::Block)
-    }
-}
-
-// A proved loop has to end, and nothing says that the input does: the turns are counted down from a number that no run uses up.
-fn blocks(rt: &HostRuntime, table: &[i16], buf: &mut [u8]) -> io::Result<()> {
-    let mut turns = u64::MAX;
-    while 0 < turns {
-        match block(rt, table, buf)? {
-            Next::Block => {
-                turns -= 1;
-            }
-            Next::Nothing => {
-                return Ok(());
-            }
-            Next::Short => {
-                return rt.stderr().write_all(b"the input ends within a call\n");
-            }
-        }
-    }
-    Ok(())
 }
 
 // A read or a write that fails ends the replay with its error.
@@ -81,5 +36,9 @@ fn main(rt: HostRuntime) -> io::Result<()> {
     }
     let table = wire::table(&bytes);
     let mut buf = [0u8; BLOCK];
-    blocks(&rt, &table, &mut buf)
+    wire::ranged::replay(&rt, &mut buf, 24, |calls: &mut [u8]| -> io::Result<()> {
+        let n = calls.len() / 24;
+        replay(&table, calls, n);
+        rt.stdout().write_all(calls)
+    })
 }

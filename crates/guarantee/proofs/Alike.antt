@@ -4,11 +4,14 @@ use Rattle.eq.specs.Eq.{loaded_eq, with_sums}
 use Rattle.eq.specs.declared.Equaliser.{Equaliser}
 use Rattle.laws.proofs.Tests.{if_both}
 use Rattle.laws.specs.Choice.{when◌then◌else◌}
+use Rattle.refusal.specs.declared.Refusal.{Refusal}
+use Rattle.refusal.specs.declared.Refused.{Refused}
+use Rattle.refusal.specs.Refusals.{answered, state_after}
+use Rattle.refusal.proofs.Answered.{answered_both}
+use Rattle.std.specs.Prelude.{Result, ⊤}
 use Rattle.receiver.specs.declared.Answer.{Answer}
-use Rattle.receiver.specs.declared.Answered.{Answered}
 use Rattle.receiver.specs.declared.Receiver.{Receiver}
-use Rattle.receiver.specs.Answers.{loaded_points, points_refusal, restart_refusal, eq_answer, end_answer, open_answer, points_answer, restart_answer, stores_fit, symbol_answer, symbol_refusal, taps_answer, with_eq, with_points}
-use Rattle.receiver.specs.Ranges.{receiver_in_range}
+use Rattle.receiver.specs.Answers.{ended_of, range_refusal, receiver_ended, receiver_left, loaded_points, points_refusal, restart_refusal, eq_answer, end_answer, open_answer, points_answer, restart_answer, stores_fit, symbol_answer, symbol_refusal, taps_answer, with_eq, with_points}
 use Rattle.receiver.specs.Started.{kept_of, started}
 use Rattle.receiver.specs.declared.Ended.{Ended}
 use Rattle.sums.specs.Sums.{empty_sums}
@@ -20,23 +23,20 @@ use Rattle.guarantee.specs.Calls.{symbol, points, taps, opens, ends, restarts, o
 use lib.Dec.{eqb, leb}
 use lib.IntN.{ℤ}
 use lib.ListN.{length}
-use mathlib.Core.Bool.{Bool, false, true, ◌&&◌}
+use mathlib.Core.Bool.{false, true, ◌&&◌}
 use mathlib.Core.List.{List, [], ◌∷◌}
+use Rattle.std.proofs.lemmas.Bool.{and_left, and_right}
 use mathlib.Core.Path.{◌≡◌, ap, ap₂, refl, sym, subst}
 
 abbrev pub sys : Receiver → List ℕ → List ℤ → System
 sys r acc store = record { receiver = r; acc = acc; store = store }
 
 -- ---- a wrong slot store gives 1, and the receiver received
-mid_false : (a b c : Bool) → b ≡ false → (a && b && c) ≡ false
-mid_false false b c e = refl
-mid_false true b c e = rw e
-
 no_fit : (l : Lent) → eqb (length l.store) 18592 ≡ false → stores_fit l ≡ false
 unfolding stores_fit
-no_fit l e = mid_false (eqb (length l.acc) 9296) (eqb (length l.store) 18592) (leb 44880 (length l.soft)) e
+no_fit l e = and_left (eqb (length l.acc) 9296 && eqb (length l.store) 18592) (leb 44880 (length l.soft)) (and_right (eqb (length l.acc) 9296) (eqb (length l.store) 18592) e)
 
-refused-same : (r : Receiver) (x : Input) (l : Lent) → stores_fit l ≡ false → (symbol_answer r x l).receiver ≡ r
+refused-same : (r : Receiver) (x : Input) (l : Lent) → stores_fit l ≡ false → receiver_left (symbol_answer r x l) ≡ r
 unfolding symbol_answer symbol_refusal when◌then◌else◌
 refused-same r x l e = rw e
 
@@ -76,13 +76,13 @@ module _ (r : Receiver) (acc : List ℕ) (a b : List ℤ) (g : Agree r.front.pha
   unfolding after_call lent_to handed_acc handed_store kept_acc kept_store
   symbol-same x own own soft =
       let w = alike r x acc soft a b g in
-      record { receivers = ap (λ (k : Answer). k.receiver) w.answer; accs = w.acc_is; stores = w.agree }
+      record { receivers = ap (λ (k : Result Answer (Refused Receiver)). receiver_left k) w.answer; accs = w.acc_is; stores = w.agree }
   symbol-same x own (wrong l e) soft =
       let k = lent acc soft l in
       record { receivers = refl; accs = refl; stores = subst (λ (u : Receiver). Agree u.front.phase a b) (sym (refused-same r x k (no_fit k e))) g }
   symbol-same x (wrong m d) own soft =
       let w = alike r x m soft a b g in
-      record { receivers = ap (λ (k : Answer). k.receiver) w.answer; accs = refl; stores = w.agree }
+      record { receivers = ap (λ (k : Result Answer (Refused Receiver)). receiver_left k) w.answer; accs = refl; stores = w.agree }
   symbol-same x (wrong m d) (wrong l e) soft =
       let k = lent m soft l in
       record { receivers = refl; accs = refl; stores = subst (λ (u : Receiver). Agree u.front.phase a b) (sym (refused-same r x k (no_fit k e))) g }
@@ -91,31 +91,27 @@ module _ (r : Receiver) (acc : List ℕ) (a b : List ℤ) (g : Agree r.front.pha
   abbrev Held : Receiver → Type 0
   Held u = Agree u.front.phase a b
 
-  points-held : (bits : ℕ) (ps : List ℤ) (k : ℤ) → Held (points_answer r bits ps k).receiver
+  left-held : (t : Result ⊤ Refusal) (u : Receiver) → Held u → Held (state_after (answered t r u))
+  left-held t u k = answered_both (λ (y : Result Receiver (Refused Receiver)). Held (state_after y)) t r u k (λ why. g)
+
+  points-held : (bits : ℕ) (ps : List ℤ) (k : ℤ) → Held (state_after (points_answer r bits ps k))
   unfolding points_answer with_points
-  points-held bits ps k =
-      let n = points_refusal r bits (length ps) k in
-      let p : Answered = record { refusal = 0; receiver = with_points r (loaded_points bits ps k) } in
-      if_both (λ (u : Answered). Held u.receiver) (eqb n 0) p (record { refusal = n; receiver = r }) g g
+  points-held bits ps k = left-held (points_refusal r bits (length ps) k) (with_points r (loaded_points bits ps k)) g
 
-  eq_held : (e : Equaliser) → Held (eq_answer r e).receiver
+  eq_held : (e : Equaliser) → Held (state_after (eq_answer r e))
   unfolding eq_answer with_eq
-  eq_held e = if_both (λ (u : Answered). Held u.receiver) (receiver_in_range r) (record { refusal = 0; receiver = with_eq r e }) (record { refusal = 6; receiver = r }) g g
+  eq_held e = left-held (range_refusal r) (with_eq r e) g
 
-  end-held : Held (end_answer r).receiver
-  unfolding end_answer with_eq
+  end-held : Held (receiver_ended (end_answer r))
+  unfolding end_answer ended_of with_eq
   end-held =
-      let o : Ended = record { refusal = 0; receiver = with_eq r (with_sums r.back.eq false (empty_sums 0)); ended = true; sums = r.back.eq.sums } in
-      let n : Ended = record { refusal = 0; receiver = r; ended = false; sums = empty_sums 0 } in
-      let x : Ended = record { refusal = 6; receiver = r; ended = false; sums = empty_sums 0 } in
-      if_both (λ (u : Ended). Held u.receiver) (receiver_in_range r) (when r.back.eq.opened then o else n) x (if_both (λ (u : Ended). Held u.receiver) r.back.eq.opened o n g g) g
+      answered_both (λ (y : Result Ended (Refused Receiver)). Held (receiver_ended y)) (range_refusal r) r (ended_of r)
+      (if_both (λ (u : Ended). Held u.receiver) r.back.eq.opened _ _ g g)
+      (λ why. g)
 
-  restart-held : (at : ℕ) (m : List ℕ) → Held (restart_answer r at m).receiver
+  restart-held : (at : ℕ) (m : List ℕ) → Held (state_after (restart_answer r at m))
   unfolding restart_answer started
-  restart-held at m =
-      let n = restart_refusal r at (length m) in
-      let s : Answered = record { refusal = 0; receiver = started at (kept_of r) } in
-      if_both (λ (u : Answered). Held u.receiver) (eqb n 0) s (record { refusal = n; receiver = r }) (record { first = g.first; second = g.second; held = tt }) g
+  restart-held at m = left-held (restart_refusal r at (length m)) (started at (kept_of r)) (record { first = g.first; second = g.second; held = tt })
 
   call_same : (c : Call) → Same (after_call (sys r acc a) c) (after_call (sys r acc b) c)
   unfolding after_call handed_acc kept_acc taps_answer open_answer

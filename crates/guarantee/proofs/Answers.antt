@@ -12,10 +12,10 @@ use Rattle.guarantee.specs.History.{History, Training, count_of, ended_in, frame
 use Rattle.guarantee.specs.History.{none, since}
 use Rattle.laws.proofs.Tests.{never}
 use Rattle.laws.specs.Choice.{when◌then◌else◌}
-use Rattle.receiver.specs.Answers.{end_answer, restart_acc, restart_refusal}
+use Rattle.receiver.specs.Answers.{end_answer, restart_acc, sums_ended, restart_refusal}
 use Rattle.receiver.specs.Symbol.{Lent}
 use Rattle.sums.specs.declared.Sums.{Sums}
-use Rattle.sums.specs.Sums.{empty_sums}
+use Rattle.std.specs.Prelude.{Option, None, Some, is_some, unwrap_or}
 use Rattle.sync_history.specs.History.{acc_after}
 use Rattle.sync_tie.proofs.Follow.{follows}
 use Rattle.sync_tie.proofs.Theorems.{kept-fold}
@@ -24,29 +24,39 @@ use Rattle.sync_tie.specs.Pushes.{size_at}
 use Rattle.sync_tie.specs.Tie.{Held}
 use lib.Dec.{lit≤, ltb}
 use lib.ListN.{get_or, length}
-use mathlib.Core.Bool.{Bool, false}
 use mathlib.Core.List.{List}
 use mathlib.Core.Path.{◌∙◌, ◌≡◌, ap, refl, subst, sym}
 use native.Mathlib.Omega.{arith}
 
 -- ---- sums: those that an end gives, or none
-record SumsTold (u : Training) (done : Bool) (sums : Sums) : Type 0 where
-  pub ended : done ≡ is_open u
-  pub frame : sums.frame ≡ frame_of u
-  pub count : sums.count ≡ count_of u
-  pub no_sums : done ≡ false → sums ≡ empty_sums 0
+record SumsTold (u : Training) (sums : Option Sums) : Type 0 where
+  pub ended : is_some sums ≡ is_open u
+  pub frame : (k : Sums) → sums ≡ Some k → k.frame ≡ frame_of u
+  pub count : (k : Sums) → sums ≡ Some k → k.count ≡ count_of u
 
-no_sums_told : SumsTold none false (empty_sums 0)
-unfolding is_open frame_of count_of empty_sums
-no_sums_told = record { ended = refl; frame = refl; count = refl; no_sums = λ e. refl }
+no_sums_told : SumsTold none None
+unfolding is_open
+no_sums_told = record { ended = refl; frame = λ k e. absurd (not_some k e); count = λ k e. absurd (not_some k e) }
+  where
+    not_some : (k : Sums) → None ≡ Some k → ⊥
+    not_some k e = never (sym (ap (λ (y : Option Sums). is_some y) e))
+
+some_sums_told : (frame m : ℕ) (sums : Sums) → sums.frame ≡ frame → sums.count ≡ m → SumsTold (since frame m) (Some sums)
+unfolding is_open frame_of count_of
+some_sums_told frame m sums e f =
+    record {
+      ended = refl;
+      frame = λ k q. ap (λ (y : Option Sums). (unwrap_or y sums).frame) (sym q) ∙ e;
+      count = λ k q. ap (λ (y : Option Sums). (unwrap_or y sums).count) (sym q) ∙ f;
+    }
 
 module _ (s : System) (h : History) (t : Tied s h) where
-  ended_by : (u : Training) → SumsTied u s.receiver.back.eq → SumsTold u (end_answer s.receiver).ended (end_answer s.receiver).sums
-  unfolding is_open frame_of count_of when◌then◌else◌
+  ended_by : (u : Training) → SumsTied u s.receiver.back.eq → SumsTold u (sums_ended (end_answer s.receiver))
+  unfolding when◌then◌else◌
   ended_by none o = rw (end-answer s h t, o) no_sums_told
-  ended_by (since frame m) o = rw (end-answer s h t, o.0) (record { ended = refl; frame = o.2; count = o.1; no_sums = λ e. absurd (never e) })
+  ended_by (since frame m) o = rw (end-answer s h t, o.0) (some_sums_told frame m s.receiver.back.eq.sums o.2 o.1)
 
-  sums-told : (c : Call) → SumsTold (ended_in h c) (told_by s c).ended (told_by s c).sums
+  sums-told : (c : Call) → SumsTold (ended_in h c) (told_by s c).sums
   unfolding told_by plain ended_in
   sums-told (symbol x a b soft) = no_sums_told
   sums-told (points bits ps k) = no_sums_told
@@ -104,7 +114,6 @@ module _ (s : System) (h : History) (t : Tied s h) where
         ended = u.ended;
         frame = u.frame;
         count = u.count;
-        no_sums = u.no_sums;
         acc = subst (Accumulated (happens h c).pushes) (sym (own-acc s h t c)) (accumulated (after_call s c) (happens h c) k.tied);
         lent = gives-lent s h t c;
       }

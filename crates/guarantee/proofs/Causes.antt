@@ -1,4 +1,6 @@
 -- The kinds of losses: by markers, or by the eighth other period in a row; and each of them loses. Assumes nothing.
+use Rattle.std.specs.Prelude.{Option}
+use Rattle.sync_heads.specs.declared.FrameHead.{FrameHead}
 use Prim.Native.Nat.{ℕ, suc, ◌-◌, ◌/◌, ◌%◌, ◌≤◌}
 use Rattle.guarantee.proofs.Stretch.{grown-length}
 use Rattle.guarantee.proofs.Tied.{Tied, is_lost_lem}
@@ -9,7 +11,6 @@ use Rattle.guarantee.specs.History.{History, loses_by, loses_with, push_of, refu
 use Rattle.laws.proofs.Tests.{and_both, by_test, never}
 use Rattle.laws.specs.Choice.{if_no, if_yes}
 use Rattle.receiver.specs.Symbol.{Input}
-use Rattle.sync_heads.specs.declared.Record.{Record}
 use Rattle.sync_history.specs.History.{Eighth, end_of}
 use Rattle.sync_tie.proofs.Claims.{markers_are}
 use Rattle.sync_tie.proofs.Says.{eighth-found, found-eighth}
@@ -18,21 +19,18 @@ use Rattle.sync_tie.specs.Stretch.{LostByMarkers, eighth_ends, ends_at, loses_at
 use borrow.Author.Tests.{eq-eqb, eqb-true, le-leb}
 use lib.Dec.{eqb, lit≤}
 use lib.ListN.{length}
-use mathlib.Core.Bool.{Bool, true, false, ◌||◌}
+use mathlib.Core.Bool.{true}
 use mathlib.Core.List.{List}
 use mathlib.Core.Logic.{◌⊎◌, inl, inr}
+use Rattle.std.proofs.lemmas.Bool.{or_right}
 use mathlib.Core.Path.{◌∙◌, ◌≡◌, ap, refl, subst, sym}
 use native.Mathlib.Omega.{arith}
-
-or_true : (t : Bool) → (t || true) ≡ true
-or_true true = refl
-or_true false = refl
 
 -- of m + 1 symbols g, the last loses by the one or by the other
 abbrev pub Cause : List Push → ℕ → Type 0
 Cause g m = LostByMarkers 9296 g (m - 23) ⊎ ((p : ℕ) × (k : ℕ) × Eighth 9296 (size_at g) p k × (length g ≡ end_of 9296 k))
 
-module _ (base : ℕ) (last : Record) (g : List Push) (m : ℕ) where
+module _ (base : ℕ) (last : Option FrameHead) (g : List Push) (m : ℕ) where
   by-period : length g ≡ suc m → 23 ≤ m → ends_at 9296 base last g (m - 23) ≡ true → eighth_ends 9296 base last g (m - 23) ≡ true → Cause g m
   unfolding ends_at end_of
   by-period n l d e =
@@ -61,7 +59,7 @@ module _ (base : ℕ) (last : Record) (g : List Push) (m : ℕ) where
       let q : (m - 23) / 9296 ≡ j = omega (arith, e) in
       let n : (m - 23) % 9296 ≡ 9295 = omega (arith, e) in
       let v = found-eighth 9296 base last g (m - 23) p (subst (Eighth 9296 (size_at g) p) (sym q) x) in
-      rw (eq-eqb ((m - 23) % 9296) 9295 n, v) (or_true (markers_lose_at 9296 base last g (m - 23)))
+      rw (eq-eqb ((m - 23) % 9296) 9295 n, v) (or_right (markers_lose_at 9296 base last g (m - 23)) true refl)
 
 module _ (s : System) (h : History) (t : Tied s h) where
   grown : (x : Input) → length (with_symbol h x) ≡ suc (length h.pushes)

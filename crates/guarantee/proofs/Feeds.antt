@@ -1,32 +1,38 @@
 -- A feed is its symbols. Assumes nothing.
 use Prim.Native.Nat.{ℕ, zero, suc, ◌+◌, ◌≤◌, ◌<◌}
 use Rattle.guarantee.specs.Calls.{Accumulators, Call, SlotStore, System, Told, after_call, after_calls, handed_acc, handed_store, kept_acc, kept_store, lent_to, told_by}
-use Rattle.guarantee.specs.Calls.{symbol, own, wrong}
+use Rattle.guarantee.specs.Calls.{symbol, own}
 use Rattle.guarantee.specs.History.{own_acc, own_store}
-use Rattle.guarantee.proofs.Follow.{own_wrong, wrong_any}
+use Rattle.guarantee.proofs.Follow.{kept-own, kept_slot, own-or-wrong}
 use Rattle.guarantee.proofs.Refusals.{wrong_fit}
 use Rattle.guarantee.specs.Feeds.{Feed, FeedClaim, FeedIs, Silent, after_feed, call_at, calls_from, fed_by, told_feed, told_nothing}
 use Rattle.laws.proofs.Tests.{by_test, if_both, if_either, neither, never}
-use Rattle.laws.specs.Choice.{if_no, if_yes, when◌then◌else◌}
+use Rattle.laws.specs.Choice.{if_no, when◌then◌else◌}
 use Rattle.frame.specs.declared.AlignedSymbol.{AlignedSymbol}
-use Rattle.receiver.specs.Answers.{no_runs, symbol_answer, symbol_lent, symbol_refusal}
-use Rattle.receiver.specs.Feed.{Block, Fed, any_event, fed_from, feed_of, feed_refusal, input_at, quiet_at, standing_refusal, symbols_of, tells_any}
+use Rattle.std.specs.Prelude.{None, Result, Ok, Err, ⊤}
+use Rattle.refusal.specs.declared.Refusal.{Refusal}
+use Rattle.refusal.specs.declared.Refusal.TheVariants.{Stores}
+use Rattle.refusal.specs.declared.Refused.{Refused}
+use Rattle.refusal.specs.Refusals.{code_of}
+use Rattle.receiver_range.proofs.Codes.{by_refusal, code_shown, written_both}
+use Rattle.receiver.specs.Answers.{accepted_symbol, code_in, events_told, no_runs, receiver_left, runs_told, symbol_answer, symbol_lent, symbol_refusal}
+use Rattle.receiver.specs.Feed.{Block, Fed, any_event, fed_by as fed_on, fed_from, feed_of, feed_refusal, input_at, quiet_at, standing_refusal, symbols_of, tells_any}
 use Rattle.receiver.specs.Symbol.{Input, Lent, aligned, lent_after, receiver_after, runs, slot, soft_after, synced}
 use Rattle.receiver.specs.declared.Answer.{Answer}
 use Rattle.receiver.specs.declared.Receiver.{Receiver}
 use Rattle.receiver_slot.specs.Slot.{run_of, runs_of, soft_all, waiting_before, written_on}
 use Rattle.receiver_slot.specs.declared.Points.{Points}
-use Rattle.sums.specs.Sums.{empty_sums}
 use Rattle.sync_step.specs.Events.{is_nothing, no_events}
 use Rattle.sync_step.specs.declared.Event.{Event}
 use Rattle.sync_step.specs.declared.Event.TheVariants.{Head, Lost, Nothing, Period}
 use Rattle.sync_step.specs.declared.Events.{Events}
-use borrow.Author.Tests.{eq-eqb, eqb-false, eqb-true, ne_eqb}
+use borrow.Author.Tests.{eqb-false, eqb-true, ne_eqb}
 use lib.Dec.{eqb}
 use lib.IntN.{ℤ}
 use lib.ListN.{drop, take}
-use mathlib.Core.Bool.{Bool, false, true, not, ◌&&◌, ◌||◌}
+use mathlib.Core.Bool.{false, true, not, ◌&&◌, ◌||◌}
 use mathlib.Core.List.{List, [], ◌∷◌, ◌++◌}
+use Rattle.std.proofs.lemmas.Bool.{not-false}
 use mathlib.Core.Path.{◌∙◌, ◌≡◌, ap, ap₂, refl, subst, sym}
 use native.Mathlib.Omega.{arith}
 
@@ -37,18 +43,13 @@ told_of x =
       refusal = 0;
       events = x.events;
       runs = x.runs;
-      ended = false;
-      sums = empty_sums 0;
+      sums = None;
       soft = x.lent.soft;
       lent = x.lent.acc;
       acc = x.lent.acc;
     }
 
 -- ---- an answer that tells nothing
-not_not : (b : Bool) → not b ≡ false → b ≡ true
-not_not true e = refl
-not_not false e = absurd (never e)
-
 nothing_is : (e : Event) → is_nothing e ≡ true → e ≡ Nothing
 unfolding is_nothing
 nothing_is Nothing k = refl
@@ -61,9 +62,9 @@ unfolding any_event no_events
 no_event es k =
     let a = neither (not (is_nothing es.first) || not (is_nothing es.second)) (not (is_nothing es.third)) k in
     let b = neither (not (is_nothing es.first)) (not (is_nothing es.second)) a.0 in
-    let e₁ = nothing_is es.first (not_not (is_nothing es.first) b.0) in
-    let e₂ = nothing_is es.second (not_not (is_nothing es.second) b.1) in
-    let e₃ = nothing_is es.third (not_not (is_nothing es.third) a.1) in
+    let e₁ = nothing_is es.first (not-false (is_nothing es.first) b.0) in
+    let e₂ = nothing_is es.second (not-false (is_nothing es.second) b.1) in
+    let e₃ = nothing_is es.third (not-false (is_nothing es.third) a.1) in
     ap₂ (λ (x y : Event). record { first = x; second = y; third = es.third }) e₁ e₂ ∙ ap (λ (z : Event). record { first = Nothing; second = Nothing; third = z }) e₃
 
 -- runs of nothing are of no symbols
@@ -94,68 +95,61 @@ module _ (s : System) (x : Input) (soft : List ℤ) where
   abbrev c : Call
   c = symbol x own own soft
 
-  abbrev a : Answer
+  abbrev a : Result Answer (Refused Receiver)
   a = symbol_answer s.receiver x l
 
   abbrev m : Lent
   m = symbol_lent s.receiver x l
 
-  after_one : after_call s c ≡ record { receiver = a.receiver; acc = m.acc; store = m.store }
+  after_one : after_call s c ≡ record { receiver = receiver_left a; acc = m.acc; store = m.store }
   unfolding after_call lent_to handed_acc handed_store kept_acc kept_store
   after_one = refl
 
-  pub told-one : ((told_by s c).refusal ≡ a.refusal) × ((told_by s c).events ≡ a.events) × ((told_by s c).runs ≡ a.runs) × ((told_by s c).soft ≡ m.soft)
+  pub told-one : ((told_by s c).refusal ≡ code_in a) × ((told_by s c).events ≡ events_told a) × ((told_by s c).runs ≡ runs_told a) × ((told_by s c).soft ≡ m.soft)
   unfolding told_by lent_to handed_acc handed_store
   told-one = (refl, refl, refl, refl)
 
   -- accepted: the answer's parts
-  abbrev yes : Answer
-  yes = record { refusal = 0; receiver = receiver_after 9296 s.receiver x l; events = (synced 9296 s.receiver x l).events; runs = runs 9296 s.receiver x l }
+  abbrev pub yes : Answer
+  yes = record { receiver = receiver_after 9296 s.receiver x l; events = (synced 9296 s.receiver x l).events; runs = runs 9296 s.receiver x l }
 
-  refusal-zero : a.refusal ≡ 0 → eqb (symbol_refusal s.receiver x l) 0 ≡ true
-  unfolding symbol_answer
-  refusal-zero e =
-      let n = symbol_refusal s.receiver x l in
-      by_test (eqb n 0) (λ k. k)
-      (λ k. absurd (never (sym (eq-eqb n 0 (sym (ap (λ (y : Answer). y.refusal) (if_no (eqb n 0) yes _ k)) ∙ e)) ∙ k)))
+  pub answer-yes : symbol_refusal s.receiver x l ≡ Ok tt → a ≡ Ok yes
+  unfolding symbol_answer accepted_symbol
+  answer-yes e = rw e
 
-  answer-yes : a.refusal ≡ 0 → a ≡ yes
-  unfolding symbol_answer
-  answer-yes e = if_yes (eqb (symbol_refusal s.receiver x l) 0) yes _ (refusal-zero e)
-
-  lent-yes : a.refusal ≡ 0 → m ≡ lent_after 9296 s.receiver x l
+  lent-yes : symbol_refusal s.receiver x l ≡ Ok tt → m ≡ lent_after 9296 s.receiver x l
   unfolding symbol_lent
-  lent-yes e = if_yes (eqb (symbol_refusal s.receiver x l) 0) (lent_after 9296 s.receiver x l) l (refusal-zero e)
+  lent-yes e = rw e
+
+  pub answer-no : (why : Refusal) → symbol_refusal s.receiver x l ≡ Err why → a ≡ Err (record { why = why; state = s.receiver })
+  unfolding symbol_answer
+  answer-no why e = rw e
 
   -- it tells nothing: no aligned symbol, and the buffer as it was
-  module _ (z : a.refusal ≡ 0) (q : tells_any a ≡ false) where
-    parts : (any_event a.events ≡ false) × (a.runs.tail.count ≡ 0) × (a.runs.body.count ≡ 0)
+  module _ (z : symbol_refusal s.receiver x l ≡ Ok tt) (q : tells_any yes ≡ false) where
+    parts : (any_event yes.events ≡ false) × (yes.runs.tail.count ≡ 0) × (yes.runs.body.count ≡ 0)
     unfolding tells_any
     parts =
-        let u = neither (any_event a.events || not (eqb a.runs.tail.count 0)) (not (eqb a.runs.body.count 0)) q in
-        let v = neither (any_event a.events) (not (eqb a.runs.tail.count 0)) u.0 in
-        (v.0, eqb-true a.runs.tail.count 0 (not_not (eqb a.runs.tail.count 0) v.1), eqb-true a.runs.body.count 0 (not_not (eqb a.runs.body.count 0) u.1))
+        let u = neither (any_event yes.events || not (eqb yes.runs.tail.count 0)) (not (eqb yes.runs.body.count 0)) q in
+        let v = neither (any_event yes.events) (not (eqb yes.runs.tail.count 0)) u.0 in
+        (v.0, eqb-true yes.runs.tail.count 0 (not-false (eqb yes.runs.tail.count 0) v.1), eqb-true yes.runs.body.count 0 (not-false (eqb yes.runs.body.count 0) u.1))
 
     no-aligned : aligned 9296 s.receiver x l ≡ []
     unfolding runs
-    no-aligned =
-        let w = answer-yes z in
-        let e = sym (ap (λ (y : Answer). y.runs.tail.count) w) ∙ parts.1 in
-        let f = sym (ap (λ (y : Answer). y.runs.body.count) w) ∙ parts.2 in
-        runs_empty s.receiver.points _ (aligned 9296 s.receiver x l) e f
+    no-aligned = runs_empty s.receiver.points _ (aligned 9296 s.receiver x l) parts.1 parts.2
 
-    runs_none : a.runs ≡ no_runs
+    runs_none : yes.runs ≡ no_runs
     unfolding runs
     runs_none =
         let n = waiting_before s.receiver.back (slot 9296 s.receiver x l) in
-        ap (λ (y : Answer). y.runs) (answer-yes z) ∙ ap (runs_of s.receiver.points n) no-aligned ∙ none_runs s.receiver.points n
+        ap (runs_of s.receiver.points n) no-aligned ∙ none_runs s.receiver.points n
 
     soft-none : m.soft ≡ soft
     unfolding lent_after soft_after soft_all written_on
     soft-none = ap (λ (y : Lent). y.soft) (lent-yes z) ∙ rw no-aligned
 
     -- what it leaves, with the buffer for the next
-    pub left-alike : ((after_call s c).receiver ≡ a.receiver) × (record { acc = (after_call s c).acc; store = (after_call s c).store; soft = soft } ≡ m)
+    pub left-alike : ((after_call s c).receiver ≡ receiver_left a) × (record { acc = (after_call s c).acc; store = (after_call s c).store; soft = soft } ≡ m)
     left-alike = (
       ap (λ (y : System). y.receiver) after_one,
       ap (λ (y : System). record { acc = y.acc; store = y.store; soft = soft }) after_one ∙ ap (λ (u : List ℤ). record { acc = m.acc; store = m.store; soft = u }) (sym soft-none),
@@ -164,9 +158,9 @@ module _ (s : System) (x : Input) (soft : List ℤ) where
     silent-one : Silent soft (told_by s c)
     silent-one =
         record {
-          refusal = told-one.0 ∙ z;
-          events = told-one.1 ∙ no_event a.events parts.0;
-          runs = told-one.2 ∙ runs_none;
+          refusal = told-one.0 ∙ ap (λ (y : Result Answer (Refused Receiver)). code_in y) (answer-yes z);
+          events = told-one.1 ∙ ap (λ (y : Result Answer (Refused Receiver)). events_told y) (answer-yes z) ∙ no_event yes.events parts.0;
+          runs = told-one.2 ∙ ap (λ (y : Result Answer (Refused Receiver)). runs_told y) (answer-yes z) ∙ runs_none;
           soft_is = told-one.3 ∙ soft-none;
         }
 
@@ -175,9 +169,9 @@ refused_feed_lem : (s : System) (d : Feed) → ((told_feed s d).refusal ≡ 0 �
 unfolding feed_of quiet_at told_feed
 refused_feed_lem s d k =
     let l = lent_to s d.accumulators d.slots d.soft in
-    if_either (λ (x : Fed). x.used ≡ 0) (eqb (feed_refusal s.receiver d.block l) 0) _ _
-    (λ e. absurd (k (eqb-true (feed_refusal s.receiver d.block l) 0 e)))
-    (λ e. refl)
+    by_refusal (feed_refusal s.receiver d.block l)
+    (λ e. absurd (k (ap (λ (t : Result ⊤ Refusal). code_of t) e)))
+    (λ why e. rw e)
 
 -- one that uses some is not refused
 accepted_feed : (s : System) (d : Feed) (j : ℕ) → suc j ≡ (fed_by s d).used → (told_feed s d).refusal ≡ 0
@@ -191,8 +185,12 @@ unfolding after_calls calls_from
 none_after s d e z = e ∙ ap (λ (n : ℕ). after_calls s (calls_from d 0 n)) z
 
 first_feed : (s : System) (d : Feed) → 0 < symbols_of d.block → (told_feed s d).refusal ≡ (told_by s (call_at d 0)).refusal
-unfolding feed_refusal call_at told_by told_feed
-first_feed s d k = if_no (eqb (symbols_of d.block) 0) _ _ (ne_eqb (symbols_of d.block) 0 (λ e. omega (arith, e, k)))
+unfolding feed_refusal call_at told_by told_feed symbol_answer
+first_feed s d k =
+    let x = input_at d.block 0 in
+    let l = lent_to s d.accumulators d.slots d.soft in
+    ap (λ (t : Result ⊤ Refusal). code_of t) (if_no (eqb (symbols_of d.block) 0) _ _ (ne_eqb (symbols_of d.block) 0 (λ e. omega (arith, e, k))))
+    ∙ sym (code_shown (symbol_refusal s.receiver x l) s.receiver (accepted_symbol s.receiver x l))
 
 -- ---- k symbols from symbol i on
 module _ (b : Block) (soft : List ℤ) where
@@ -224,30 +222,39 @@ module _ (b : Block) (soft : List ℤ) where
         idle = λ e. (refl, refl, refl, refl);
       }
 
-  abbrev answer : System → ℕ → Answer
+  abbrev test : System → ℕ → Result ⊤ Refusal
+  test s i = symbol_refusal s.receiver (input_at b i) (lent_of s)
+
+  abbrev answer : System → ℕ → Result Answer (Refused Receiver)
   answer s i = symbol_answer s.receiver (input_at b i) (lent_of s)
+
+  abbrev taken : System → ℕ → Answer
+  taken s i = yes s (input_at b i) soft
 
   abbrev leaves : System → ℕ → Lent
   leaves s i = symbol_lent s.receiver (input_at b i) (lent_of s)
 
   -- the last one
   abbrev one : System → ℕ → Fed
-  one s i = record { used = i + 1; receiver = (answer s i).receiver; lent = leaves s i; events = (answer s i).events; runs = (answer s i).runs }
+  one s i = record { used = i + 1; receiver = (taken s i).receiver; lent = leaves s i; events = (taken s i).events; runs = (taken s i).runs }
 
-  one_told : (s : System) (i : ℕ) → (answer s i).refusal ≡ 0 → told_of (one s i) ≡ told_by s (call_at d i)
+  one_told : (s : System) (i : ℕ) → test s i ≡ Ok tt → told_of (one s i) ≡ told_by s (call_at d i)
   unfolding told_by call_at lent_to handed_acc handed_store kept_acc
   one_told s i z =
-      let x = one s i in
-      ap (λ (n : ℕ). record { refusal = n; events = x.events; runs = x.runs; ended = false; sums = empty_sums 0; soft = x.lent.soft; lent = x.lent.acc; acc = x.lent.acc }) (sym z)
+      let m = leaves s i in
+      ap (λ (y : Result Answer (Refused Receiver)). record { refusal = code_in y; events = events_told y; runs = runs_told y; sums = None; soft = m.soft; lent = m.acc; acc = m.acc })
+      (sym (answer-yes s (input_at b i) soft z))
 
-  one-fed : (s : System) (i k : ℕ) → (answer s i).refusal ≡ 0 → FedIs s i (suc k) (one s i)
+  one-fed : (s : System) (i k : ℕ) → test s i ≡ Ok tt → FedIs s i (suc k) (one s i)
   unfolding after_calls calls_from call_at
   one-fed s i k z =
       record {
         n = 1;
         most = omega arith;
         used = refl;
-        after = sym (after_one s (input_at b i) soft);
+        after =
+            ap (λ (y : Result Answer (Refused Receiver)). record { receiver = receiver_left y; acc = (leaves s i).acc; store = (leaves s i).store }) (sym (answer-yes s (input_at b i) soft z))
+            ∙ sym (after_one s (input_at b i) soft);
         silent = λ j e. absurd (omega (arith, e));
         last = λ j e. first-last j (omega (arith, e));
         idle = λ e. absurd (omega (arith, e));
@@ -272,8 +279,7 @@ module _ (b : Block) (soft : List ℤ) where
         refusal = sym q.refusal j;
         events = (es ∙ sym q.events) j;
         runs = (rs ∙ sym q.runs) j;
-        ended = false;
-        sums = empty_sums 0;
+        sums = None;
         soft = (so ∙ sym q.soft_is) j;
         lent = ac j;
         acc = ac j;
@@ -310,31 +316,30 @@ module _ (b : Block) (soft : List ℤ) where
       lasts zero e = subst (λ (v : ℕ). told_of x ≡ told_by s (call_at d v)) (sym here) (idle-last (omega (arith, e)))
       lasts (suc j) e = subst (λ (v : ℕ). told_of x ≡ told_by (after_calls (after_call s (call_at d i)) (calls_from d (i + 1) j)) (call_at d v)) (there j) (w.last j (omega (arith, e)))
 
-  goes_on_lem : (s : System) (i k : ℕ) → (answer s i).refusal ≡ 0 → tells_any (answer s i) ≡ false →
+  goes_on_lem : (s : System) (i k : ℕ) → test s i ≡ Ok tt → tells_any (taken s i) ≡ false →
       FedIs (after_call s (call_at d i)) (i + 1) k (fed_from b k (i + 1) (after_call s (call_at d i)).receiver (lent_of (after_call s (call_at d i)))) →
-      FedIs s i (suc k) (fed_from b k (i + 1) (answer s i).receiver (leaves s i))
+      FedIs s i (suc k) (fed_from b k (i + 1) (receiver_left (answer s i)) (leaves s i))
   unfolding call_at
   goes_on_lem s i k z t w =
       let x = input_at b i in
       let e = left-alike s x soft z t in
-      more-fed s i k (fed_from b k (i + 1) (answer s i).receiver (leaves s i)) (silent-one s x soft z t)
-      (subst (λ (y : Lent). FedIs (after_call s (call_at d i)) (i + 1) k (fed_from b k (i + 1) (answer s i).receiver y)) e.1
+      more-fed s i k (fed_from b k (i + 1) (receiver_left (answer s i)) (leaves s i)) (silent-one s x soft z t)
+      (subst (λ (y : Lent). FedIs (after_call s (call_at d i)) (i + 1) k (fed_from b k (i + 1) (receiver_left (answer s i)) y)) e.1
       (subst (λ (y : Receiver). FedIs (after_call s (call_at d i)) (i + 1) k (fed_from b k (i + 1) y (lent_of (after_call s (call_at d i))))) e.0 w))
 
   fed-step : (k i : ℕ) (s : System) →
       FedIs (after_call s (call_at d i)) (i + 1) k (fed_from b k (i + 1) (after_call s (call_at d i)).receiver (lent_of (after_call s (call_at d i)))) →
       FedIs s i (suc k) (fed_from b (suc k) i s.receiver (lent_of s))
-  unfolding fed_from
+  unfolding fed_from fed_on
   fed-step k i s w =
-      let a = answer s i in
-      let told : Fed = one s i in
-      let on = fed_from b k (i + 1) a.receiver (leaves s i) in
-      let quiet = quiet_at i s.receiver (lent_of s) in
-      if_either (FedIs s i (suc k)) (eqb a.refusal 0) (when tells_any a then told else on) quiet
-      (λ e.
-      let z = eqb-true a.refusal 0 e in
-      if_either (FedIs s i (suc k)) (tells_any a) told on (λ t. one-fed s i k z) (λ t. goes_on_lem s i k z t w))
-      (λ e. none-fed s i (suc k))
+      let x = input_at b i in
+      let on = fed_from b k (i + 1) (receiver_left (answer s i)) (leaves s i) in
+      by_refusal (test s i)
+      (λ z.
+      subst (λ (y : Result Answer (Refused Receiver)). FedIs s i (suc k) (fed_on i s.receiver (lent_of s) y (leaves s i) on)) (sym (answer-yes s x soft z))
+      (if_either (FedIs s i (suc k)) (tells_any (taken s i)) (one s i) on (λ t. one-fed s i k z) (λ t. goes_on_lem s i k z t w)))
+      (λ why e.
+      subst (λ (y : Result Answer (Refused Receiver)). FedIs s i (suc k) (fed_on i s.receiver (lent_of s) y (leaves s i) on)) (sym (answer-no s x soft why e)) (none-fed s i (suc k)))
 
   fed-none : (i : ℕ) (s : System) → FedIs s i 0 (fed_from b 0 i s.receiver (lent_of s))
   unfolding fed_from
@@ -351,20 +356,20 @@ module _ (b : Block) (soft : List ℤ) where
   own-fed : (s : System) → FedIs s 0 (symbols_of b) (feed_of s.receiver b (lent_of s))
   unfolding feed_of
   own-fed s =
-      if_both (FedIs s 0 (symbols_of b)) (eqb (feed_refusal s.receiver b (lent_of s)) 0) (fed_from b (symbols_of b) 0 s.receiver (lent_of s)) (quiet_at 0 s.receiver (lent_of s))
-      (fed-is (symbols_of b) 0 s) (none-fed s 0 (symbols_of b))
+      written_both (FedIs s 0 (symbols_of b)) (feed_refusal s.receiver b (lent_of s)) (quiet_at 0 s.receiver (lent_of s)) (fed_from b (symbols_of b) 0 s.receiver (lent_of s))
+      (none-fed s 0 (symbols_of b)) (fed-is (symbols_of b) 0 s)
 
   fed-told : (s : System) → (told_feed s d).refusal ≡ 0 → told_feed s d ≡ told_of (fed_by s d)
   unfolding told_feed kept_acc
   fed-told s z =
       let x = fed_by s d in
-      ap (λ (n : ℕ). record { refusal = n; events = x.events; runs = x.runs; ended = false; sums = empty_sums 0; soft = x.lent.soft; lent = x.lent.acc; acc = x.lent.acc }) z
+      ap (λ (n : ℕ). record { refusal = n; events = x.events; runs = x.runs; sums = None; soft = x.lent.soft; lent = x.lent.acc; acc = x.lent.acc }) z
 
   idle-told : (s : System) → (fed_by s d).events ≡ no_events → (fed_by s d).runs ≡ no_runs → (fed_by s d).lent.soft ≡ soft → (fed_by s d).lent.acc ≡ s.acc →
       told_feed s d ≡ told_nothing s d (told_feed s d).refusal
   unfolding told_feed told_nothing kept_acc handed_acc
   idle-told s es rs so ac =
-      λ j. record { refusal = (told_feed s d).refusal; events = es j; runs = rs j; ended = false; sums = empty_sums 0; soft = so j; lent = ac j; acc = ac j }
+      λ j. record { refusal = (told_feed s d).refusal; events = es j; runs = rs j; sums = None; soft = so j; lent = ac j; acc = ac j }
 
   own-feed : (s : System) → FeedIs s d
   unfolding after_feed lent_to handed_acc handed_store kept_acc kept_store
@@ -386,35 +391,25 @@ module _ (s : System) (d : Feed) (z : (own_acc d.accumulators && own_store d.slo
   abbrev given : Lent
   given = lent_to s d.accumulators d.slots d.soft
 
-  stands-1 : standing_refusal s.receiver d.block given ≡ 1
+  stands-1 : standing_refusal s.receiver d.block given ≡ Err Stores
   unfolding standing_refusal when◌then◌else◌
   stands-1 = rw (wrong_fit s d.accumulators d.slots d.soft z)
 
-  symbol-1 : (symbol_answer s.receiver (input_at d.block 0) given).refusal ≡ 1
-  unfolding symbol_answer symbol_refusal when◌then◌else◌
+  symbol-1 : symbol_refusal s.receiver (input_at d.block 0) given ≡ Err Stores
+  unfolding symbol_refusal when◌then◌else◌
   symbol-1 = rw (wrong_fit s d.accumulators d.slots d.soft z)
 
-  feed-1 : feed_refusal s.receiver d.block given ≡ 1
+  feed-1 : feed_refusal s.receiver d.block given ≡ Err Stores
   unfolding feed_refusal
-  feed-1 = if_both (λ (n : ℕ). n ≡ 1) (eqb (symbols_of d.block) 0) _ _ stands-1 symbol-1
+  feed-1 = if_both (λ (u : Result ⊤ Refusal). u ≡ Err Stores) (eqb (symbols_of d.block) 0) _ _ stands-1 symbol-1
 
   pub refused-1 : (told_feed s d).refusal ≡ 1
   unfolding told_feed
-  refused-1 = feed-1
+  refused-1 = ap (λ (u : Result ⊤ Refusal). code_of u) feed-1
 
   wrong-fed : fed_by s d ≡ quiet_at 0 s.receiver given
-  unfolding feed_of when◌then◌else◌
+  unfolding feed_of
   wrong-fed = rw feed-1
-
-  same-acc : (u : Accumulators) → kept_acc s u (handed_acc s u) ≡ s.acc
-  unfolding kept_acc handed_acc
-  same-acc own = refl
-  same-acc (wrong acc e) = refl
-
-  same_store : (u : SlotStore) → kept_store s u (handed_store s u) ≡ s.store
-  unfolding kept_store handed_store
-  same_store own = refl
-  same_store (wrong store e) = refl
 
   pub wrong-used : (fed_by s d).used ≡ 0
   unfolding quiet_at
@@ -424,15 +419,15 @@ module _ (s : System) (d : Feed) (z : (own_acc d.accumulators && own_store d.slo
   unfolding after_feed quiet_at lent_to
   wrong-after =
       ap (λ (x : Fed). record { receiver = x.receiver; acc = kept_acc s d.accumulators x.lent.acc; store = kept_store s d.slots x.lent.store }) wrong-fed
-      ∙ ap₂ (λ (u : List ℕ) (v : List ℤ). record { receiver = s.receiver; acc = u; store = v }) (same-acc d.accumulators) (same_store d.slots)
+      ∙ ap₂ (λ (u : List ℕ) (v : List ℤ). record { receiver = s.receiver; acc = u; store = v }) (kept-own s d.accumulators) (kept_slot s d.slots)
 
   pub wrong-told : told_feed s d ≡ told_nothing s d (told_feed s d).refusal
   unfolding told_feed told_nothing quiet_at lent_to
   wrong-told =
       let n = (told_feed s d).refusal in
       let a = d.accumulators in
-      ap (λ (x : Fed). record { refusal = n; events = x.events; runs = x.runs; ended = false; sums = empty_sums 0; soft = x.lent.soft; lent = x.lent.acc; acc = kept_acc s a x.lent.acc }) wrong-fed
-      ∙ ap (λ (u : List ℕ). record { refusal = n; events = no_events; runs = no_runs; ended = false; sums = empty_sums 0; soft = d.soft; lent = handed_acc s a; acc = u }) (same-acc a)
+      ap (λ (x : Fed). record { refusal = n; events = x.events; runs = x.runs; sums = None; soft = x.lent.soft; lent = x.lent.acc; acc = kept_acc s a x.lent.acc }) wrong-fed
+      ∙ ap (λ (u : List ℕ). record { refusal = n; events = no_events; runs = no_runs; sums = None; soft = d.soft; lent = handed_acc s a; acc = u }) (kept-own s a)
 
   wrong-feed : FeedIs s d
   wrong-feed =
@@ -452,10 +447,12 @@ module _ (s : System) (d : Feed) (z : (own_acc d.accumulators && own_store d.slo
       no-calls : s ≡ after_calls s (calls_from d 0 (fed_by s d).used)
       no-calls = rw wrong-used none-called
 
+-- what holds with the receiver's own stores, and wherever one gives 1, holds of every feed
+pub own-or-wrong-feed : (P : Feed → Type 0) → ((b : Block) (soft : List ℤ) → P (record { block = b; accumulators = own; slots = own; soft = soft })) →
+    ((d : Feed) → (own_acc d.accumulators && own_store d.slots) ≡ false → P d) → (d : Feed) → P d
+own-or-wrong-feed P p q d =
+    own-or-wrong (λ (a : Accumulators) (b : SlotStore). P (record { block = d.block; accumulators = a; slots = b; soft = d.soft })) (p d.block d.soft)
+    (λ a b z. q (record { block = d.block; accumulators = a; slots = b; soft = d.soft }) z) d.accumulators d.slots
+
 pub feeds : FeedClaim
-feeds s d = go d.accumulators d.slots refl refl
-  where
-    go : (a : Accumulators) (b : SlotStore) → d.accumulators ≡ a → d.slots ≡ b → FeedIs s d
-    go own own e f = subst (FeedIs s) (ap₂ (λ (u : Accumulators) (v : SlotStore). record { block = d.block; accumulators = u; slots = v; soft = d.soft }) (sym e) (sym f)) (own-feed d.block d.soft s)
-    go own (wrong sl k) e f = wrong-feed s d (ap₂ (λ (u : Accumulators) (v : SlotStore). own_acc u && own_store v) e f ∙ own_wrong sl k)
-    go (wrong al k) b e f = wrong-feed s d (ap₂ (λ (u : Accumulators) (v : SlotStore). own_acc u && own_store v) e f ∙ wrong_any al k b)
+feeds s d = own-or-wrong-feed (FeedIs s) (λ b soft. own-feed b soft s) (wrong-feed s) d

@@ -1,9 +1,8 @@
 -- Two receivers with the same numbers and accumulators take every feed alike, if their slot stores agree on the held slot. Assumes nothing.
 use Prim.Native.Nat.{ℕ, zero, suc, ◌+◌}
 use Rattle.guarantee.proofs.Alike.{Same, after_same, sys, told_same}
-use Rattle.guarantee.proofs.Feeds.{refused-1, wrong-after, wrong-told, wrong-used}
-use Rattle.guarantee.proofs.Follow.{own_wrong, wrong_any}
-use Rattle.guarantee.specs.Calls.{Accumulators, SlotStore, System, handed_acc, handed_store, kept_acc, kept_store, lent_to}
+use Rattle.guarantee.proofs.Feeds.{own-or-wrong-feed, refused-1, wrong-after, wrong-told, wrong-used}
+use Rattle.guarantee.specs.Calls.{Accumulators, System, handed_acc, handed_store, kept_acc, kept_store, lent_to}
 use Rattle.guarantee.specs.Calls.{own, wrong}
 use Rattle.guarantee.specs.Feeds.{Feed, after_feed, fed_by, told_feed, told_nothing}
 use Rattle.guarantee.specs.History.{own_acc, own_store}
@@ -11,14 +10,17 @@ use Rattle.guarantee.specs.Items.{Item, ItemTold, after_item, told_item, told_it
 use Rattle.guarantee.specs.Items.{call, feed, called, fed}
 use Rattle.laws.proofs.Tests.{by_test}
 use Rattle.laws.specs.Choice.{when◌then◌else◌}
-use Rattle.receiver.specs.Answers.{stores_fit, symbol_answer, symbol_lent}
-use Rattle.receiver.specs.Feed.{Block, Fed, fed_from, feed_of, feed_refusal, input_at, quiet_at, standing_refusal, symbols_of, tells_any}
+use Rattle.std.specs.Prelude.{None, Result, Ok, Err}
+use Rattle.refusal.specs.declared.Refused.{Refused}
+use Rattle.refusal.specs.Refusals.{code_of}
+use Rattle.receiver_range.proofs.Codes.{by_refusal}
+use Rattle.receiver.specs.Answers.{receiver_left, stores_fit, symbol_answer, symbol_lent, symbol_refusal}
+use Rattle.receiver.specs.Feed.{Block, Fed, fed_by as fed_on, fed_from, feed_of, feed_refusal, input_at, quiet_at, standing_refusal, symbols_of, tells_any}
 use Rattle.receiver.specs.Symbol.{Lent}
 use Rattle.receiver.specs.declared.Answer.{Answer}
 use Rattle.receiver.specs.declared.Receiver.{Receiver}
 use Rattle.receiver_laws.proofs.Stores.{alike}
 use Rattle.receiver_laws.specs.Stores.{Agree, lent}
-use Rattle.sums.specs.Sums.{empty_sums}
 use lib.Dec.{eqb}
 use lib.IntN.{ℤ}
 use mathlib.Core.Bool.{false, ◌&&◌}
@@ -46,22 +48,17 @@ unfolding quiet_at
 quiet_alike i r l m w = record { used = refl; receiver = refl; events = refl; runs = refl; acc = w.acc; soft = w.soft; stores = w.stores }
 
 -- a symbol of a feed, by its answer and what it leaves
-abbrev step_fed : Block → ℕ → ℕ → Receiver → Lent → Answer → Lent → Fed
-step_fed b k i r l a m =
-    when eqb a.refusal 0
-    then when tells_any a then record { used = i + 1; receiver = a.receiver; lent = m; events = a.events; runs = a.runs } else fed_from b k (i + 1) a.receiver m
-    else quiet_at i r l
+abbrev step_fed : Block → ℕ → ℕ → Receiver → Lent → Result Answer (Refused Receiver) → Lent → Fed
+step_fed b k i r l a m = fed_on i r l a m (fed_from b k (i + 1) (receiver_left a) m)
 
-step_alike : (b : Block) (k i : ℕ) (r : Receiver) (l l' : Lent) (a : Answer) (m m' : Lent) → LentAlike r l l' → LentAlike a.receiver m m' →
-    FedAlike (fed_from b k (i + 1) a.receiver m) (fed_from b k (i + 1) a.receiver m') → FedAlike (step_fed b k i r l a m) (step_fed b k i r l' a m')
-unfolding when◌then◌else◌
-step_alike b k i r l l' a m m' w v on =
-    by_test (eqb a.refusal 0)
-    (λ e.
+step_alike : (b : Block) (k i : ℕ) (r : Receiver) (l l' : Lent) (a : Result Answer (Refused Receiver)) (m m' : Lent) → LentAlike r l l' → LentAlike (receiver_left a) m m' →
+    FedAlike (fed_from b k (i + 1) (receiver_left a) m) (fed_from b k (i + 1) (receiver_left a) m') → FedAlike (step_fed b k i r l a m) (step_fed b k i r l' a m')
+unfolding fed_on when◌then◌else◌
+step_alike b k i r l l' (Ok a) m m' w v on =
     by_test (tells_any a)
-    (λ t. rw (e, t) (record { used = refl; receiver = refl; events = refl; runs = refl; acc = v.acc; soft = v.soft; stores = v.stores }))
-    (λ t. rw (e, t) on))
-    (λ e. rw e (quiet_alike i r l l' w))
+    (λ t. rw t (record { used = refl; receiver = refl; events = refl; runs = refl; acc = v.acc; soft = v.soft; stores = v.stores }))
+    (λ t. rw t on)
+step_alike b k i r l l' (Err x) m m' w v on = quiet_alike i r l l' w
 
 lent_is : (l m : Lent) → l.acc ≡ m.acc → l.soft ≡ m.soft → lent l.acc l.soft m.store ≡ m
 lent_is l m p q = λ i. record { acc = p i; store = m.store; soft = q i }
@@ -71,8 +68,8 @@ unfolding fed_from
 fed_zero b i r l m w = quiet_alike i r l m w
 
 fed_more : (b : Block) (k i : ℕ) (r : Receiver) (l l' : Lent) → LentAlike r l l' →
-    ((m m' : Lent) → LentAlike (symbol_answer r (input_at b i) l).receiver m m' →
-    FedAlike (fed_from b k (i + 1) (symbol_answer r (input_at b i) l).receiver m) (fed_from b k (i + 1) (symbol_answer r (input_at b i) l).receiver m')) →
+    ((m m' : Lent) → LentAlike (receiver_left (symbol_answer r (input_at b i) l)) m m' →
+    FedAlike (fed_from b k (i + 1) (receiver_left (symbol_answer r (input_at b i) l)) m) (fed_from b k (i + 1) (receiver_left (symbol_answer r (input_at b i) l)) m')) →
     FedAlike (fed_from b (suc k) i r l) (fed_from b (suc k) i r l')
 unfolding fed_from
 fed_more b k i r l l' w on =
@@ -83,14 +80,14 @@ fed_more b k i r l l' w on =
     let m = symbol_lent r x l in
     let same : a ≡ symbol_answer r x l' = v.answer ∙ ap (symbol_answer r x) e in
     let left = ap (symbol_lent r x) e in
-    let q : LentAlike a.receiver m (symbol_lent r x l') =
-    subst (LentAlike a.receiver m) left (record { acc = v.acc_is; soft = v.soft_is; stores = v.agree }) in
-    subst (λ (y : Answer). FedAlike (step_fed b k i r l a m) (step_fed b k i r l' y (symbol_lent r x l'))) same
+    let q : LentAlike (receiver_left a) m (symbol_lent r x l') =
+    subst (LentAlike (receiver_left a) m) left (record { acc = v.acc_is; soft = v.soft_is; stores = v.agree }) in
+    subst (λ (y : Result Answer (Refused Receiver)). FedAlike (step_fed b k i r l a m) (step_fed b k i r l' y (symbol_lent r x l'))) same
     (step_alike b k i r l l' a m (symbol_lent r x l') w q (on m (symbol_lent r x l') q))
 
 fed_alike : (b : Block) (k i : ℕ) (r : Receiver) (l m : Lent) → LentAlike r l m → FedAlike (fed_from b k i r l) (fed_from b k i r m)
 fed_alike b zero i r l m w = fed_zero b i r l m w
-fed_alike b (suc k) i r l m w = fed_more b k i r l m w (λ u v q. fed_alike b k (i + 1) (symbol_answer r (input_at b i) l).receiver u v q)
+fed_alike b (suc k) i r l m w = fed_more b k i r l m w (λ u v q. fed_alike b k (i + 1) (receiver_left (symbol_answer r (input_at b i) l)) u v q)
 
 -- ---- a feed with the receiver's own stores
 fit_alike : (r : Receiver) (l m : Lent) → LentAlike r l m → stores_fit l ≡ stores_fit m
@@ -101,17 +98,16 @@ refusal_alike : (b : Block) (r : Receiver) (l m : Lent) → LentAlike r l m → 
 unfolding feed_refusal standing_refusal when◌then◌else◌
 refusal_alike b r l m w =
     let x = input_at b 0 in
-    let e = (alike r x l.acc l.soft l.store m.store w.stores).answer ∙ ap (symbol_answer r x) (lent_is l m w.acc w.soft) in
-    by_test (eqb (symbols_of b) 0) (λ t. rw (t, fit_alike r l m w)) (λ t. rw t (ap (λ (a : Answer). a.refusal) e))
+    let e = (alike r x l.acc l.soft l.store m.store w.stores).refusal ∙ ap (symbol_refusal r x) (lent_is l m w.acc w.soft) in
+    by_test (eqb (symbols_of b) 0) (λ t. rw (t, fit_alike r l m w)) (λ t. rw t e)
 
 feed_alike : (b : Block) (r : Receiver) (l m : Lent) → LentAlike r l m → FedAlike (feed_of r b l) (feed_of r b m)
-unfolding feed_of when◌then◌else◌
+unfolding feed_of
 feed_alike b r l m w =
     let e = refusal_alike b r l m w in
-    let n = feed_refusal r b l in
-    by_test (eqb n 0)
+    by_refusal (feed_refusal r b l)
     (λ t. rw (sym e, t) (fed_alike b (symbols_of b) 0 r l m w))
-    (λ t. rw (sym e, t) (quiet_alike 0 r l m w))
+    (λ why t. rw (sym e, t) (quiet_alike 0 r l m w))
 
 -- ---- what it tells and leaves
 record FeedSame (s t : System) (d : Feed) : Type 0 where
@@ -136,7 +132,7 @@ module _ (r : Receiver) (acc : List ℕ) (a b : List ℤ) (g : Agree r.front.pha
       let n = refusal_alike block r l m q in
       record {
         used = w.used;
-        told = λ j. record { refusal = n j; events = w.events j; runs = w.runs j; ended = false; sums = empty_sums 0; soft = w.soft j; lent = w.acc j; acc = w.acc j };
+        told = λ j. record { refusal = code_of (n j); events = w.events j; runs = w.runs j; sums = None; soft = w.soft j; lent = w.acc j; acc = w.acc j };
         after = record { receivers = w.receiver; accs = w.acc; stores = w.stores };
       }
 
@@ -161,20 +157,9 @@ module _ (r : Receiver) (acc : List ℕ) (a b : List ℤ) (g : Agree r.front.pha
       }
 
 feed_same : (s t : System) (d : Feed) → Same s t → FeedSame s t d
-feed_same s t d w = subst (λ (v : System). FeedSame s v d) e (go d.accumulators d.slots refl refl)
-  where
-    e : sys s.receiver s.acc t.store ≡ t
-    e = ap₂ (λ (r : Receiver) (k : List ℕ). sys r k t.store) w.receivers w.accs
-
-    go : (a : Accumulators) (b : SlotStore) → d.accumulators ≡ a → d.slots ≡ b → FeedSame s (sys s.receiver s.acc t.store) d
-    go own own p q =
-        subst (FeedSame s (sys s.receiver s.acc t.store))
-        (ap₂ (λ (u : Accumulators) (v : SlotStore). record { block = d.block; accumulators = u; slots = v; soft = d.soft }) (sym p) (sym q))
-        (own_same s.receiver s.acc s.store t.store w.stores d.block d.soft)
-    go own (wrong sl k) p q =
-        wrong-same s.receiver s.acc s.store t.store w.stores d (ap₂ (λ (u : Accumulators) (v : SlotStore). own_acc u && own_store v) p q ∙ own_wrong sl k)
-    go (wrong al k) b p q =
-        wrong-same s.receiver s.acc s.store t.store w.stores d (ap₂ (λ (u : Accumulators) (v : SlotStore). own_acc u && own_store v) p q ∙ wrong_any al k b)
+feed_same s t d w =
+    subst (λ (v : System). FeedSame s v d) (ap₂ (λ (r : Receiver) (k : List ℕ). sys r k t.store) w.receivers w.accs)
+    (own-or-wrong-feed (FeedSame s (sys s.receiver s.acc t.store)) (own_same s.receiver s.acc s.store t.store w.stores) (wrong-same s.receiver s.acc s.store t.store w.stores) d)
 
 -- ---- every list of calls and feeds
 item_told : (s t : System) (x : Item) → Same s t → told_item s x ≡ told_item t x

@@ -1,9 +1,9 @@
 -- What the heads of a call do to carrier and slot phase. Assumes nothing.
+use Rattle.std.specs.Prelude.{Option, None}
+use Rattle.phase.specs.declared.Held.{Held}
 use Prim.Native.Nat.{ℕ, ◌<◌}
 use Rattle.carrier.specs.declared.Nco.{Nco}
 use Rattle.laws.proofs.Tests.{by_test, neither, never}
-use Rattle.phase.specs.declared.Due.TheVariants.{Nothing as NoSlot}
-use Rattle.phase.specs.declared.SlotPhase.{SlotPhase}
 use Rattle.receiver.specs.declared.Listened.{Listened}
 use Rattle.receiver.specs.Heads.{event_heard, listened}
 use Rattle.receiver_laws.proofs.Heads.{Begun, From, untouched, begun_stays, event_from, head-begun}
@@ -49,14 +49,14 @@ none-heard n l es k =
     ∙ no_event n l es.first b.0
 
 -- ---- a head: its slot begins, and the first of the call says whether the slot before is due
-event_begun : (n : ℕ) (p : SlotPhase) (l : Listened) (e : Event) → is_head e ≡ true → 0 < n → From n p l → Begun n p (event_heard n l e)
+event_begun : (n : ℕ) (p : Option Held) (l : Listened) (e : Event) → is_head e ≡ true → 0 < n → From n p l → Begun n p (event_heard n l e)
 unfolding is_head
 event_begun n p l Nothing k z f = absurd (never (sym k))
 event_begun n p l (Told g) k z f = head-begun n p l g z f
 event_begun n p l (Period s) k z f = absurd (never (sym k))
 event_begun n p l (Lost at) k z f = absurd (never (sym k))
 
-pub head-heard : (n : ℕ) (l : Listened) (es : Events) → 0 < n → l.due ≡ NoSlot → any_head es ≡ true → Begun n l.phase (listened n l es)
+pub head-heard : (n : ℕ) (l : Listened) (es : Events) → 0 < n → l.due ≡ None → any_head es ≡ true → Begun n l.phase (listened n l es)
 unfolding any_head listened
 head-heard n l es z d k =
     let p = l.phase in

@@ -11,22 +11,28 @@ use Rattle.guarantee.specs.Calls.{Call, System, after_call, begins, handed_acc, 
 use Rattle.guarantee.specs.Calls.{points, taps, opens, ends, restarts, own, wrong}
 use Rattle.guarantee.specs.History.{History, Training, accepts, begins_with, events_in, happens, kept_in, next_in, own_acc, refusal_in}
 use Rattle.guarantee.specs.History.{none, since}
-use Rattle.laws.proofs.Tests.{by_test, if_cong, never}
+use Rattle.laws.proofs.Tests.{by_test, never}
 use Rattle.laws.specs.Choice.{if_no, if_yes, when◌then◌else◌}
-use Rattle.receiver.specs.declared.Answered.{Answered}
+use Rattle.refusal.specs.declared.Refusal.{Refusal}
+use Rattle.refusal.specs.declared.Refusal.TheVariants.{Stores, Points as BadPoints, Scale, Arithmetic, Position}
+use Rattle.refusal.specs.declared.Refused.{Refused}
+use Rattle.refusal.specs.Refusals.{answered, code_of}
+use Rattle.std.specs.Prelude.{None, Some, Result, Ok, Err, ⊤}
 use Rattle.receiver.specs.declared.Ended.{Ended}
 use Rattle.receiver.specs.declared.Kept.{Kept as KeptValues}
 use Rattle.receiver.specs.declared.Receiver.{Receiver}
-use Rattle.receiver.specs.Answers.{end_answer, eq_answer, loaded_points, open_answer, points_answer, points_refusal, restart_acc, restart_answer, restart_refusal, taps_answer, with_eq, with_points}
+use Rattle.receiver.specs.Answers.{code_in, ended_of, range_refusal, receiver_ended, end_answer, eq_answer, loaded_points, open_answer, points_answer, points_refusal, restart_acc, restart_answer, restart_refusal, taps_answer, with_eq, with_points}
 use Rattle.receiver.specs.Ranges.{receiver_in_range}
 use Rattle.receiver.specs.Started.{kept_of, started}
+use Rattle.receiver.specs.Symbol.{next_of}
+use Rattle.receiver_range.proofs.Codes.{by_refusal, code_chosen, code_shown, refused_0, taken_0}
 use Rattle.receiver_range.proofs.InRange.{in_range}
 use Rattle.receiver_range.proofs.Starts.{end_sums_coherent, loaded_points_fit, open_sums_coherent, points_coherent, restart_coherent, taps_coherent}
 use Rattle.receiver_range.specs.Coherent.{CoherentReceiver, PointsFit}
 use Rattle.sums.specs.Sums.{empty_sums}
 use Rattle.sync_tie.proofs.Theorems.{record-now}
 use Rattle.sync_tie.specs.Tie.{Held}
-use borrow.Author.Tests.{eq-eqb, eqb-true}
+use borrow.Author.Tests.{eq-eqb}
 use lib.Dec.{eqb, lit≤, ltb}
 use lib.IntN.{ℤ}
 use lib.ListN.{length, replicate}
@@ -43,17 +49,14 @@ module _ (s : System) (h : History) (t : Tied s h) (bits : ℕ) (ps : List ℤ) 
   abbrev c : Call
   c = points bits ps k
 
-  points-refusal : points_refusal r bits (length ps) k ≡ refusal_in h c
-  unfolding points_refusal refusal_in
+  points-refusal : code_of (points_refusal r bits (length ps) k) ≡ refusal_in h c
+  unfolding points_refusal refusal_in range_refusal
   points-refusal =
-      if_cong (bad_points bits (length ps)) 4 _ 4 _ (λ a. refl)
-      (λ a. if_cong (bad_scale k) 5 _ 5 _ (λ b. refl) (λ b. if_yes (receiver_in_range r) 0 6 (in_range r t.coherent)))
+      code_chosen (bad_points bits (length ps)) (Err BadPoints) _ 4 _ (λ a. refl)
+      (λ a. code_chosen (bad_scale k) (Err Scale) _ 5 _ (λ b. refl) (λ b. ap (λ (u : Result ⊤ Refusal). code_of u) (if_yes (receiver_in_range r) (Ok tt) (Err Arithmetic) (in_range r t.coherent))))
 
-  abbrev loaded : Answered
-  loaded = record { refusal = 0; receiver = with_points r (loaded_points bits ps k) }
-
-  abbrev kept : ℕ → Answered
-  kept n = record { refusal = n; receiver = r }
+  points-told : code_in (answered (points_refusal r bits (length ps) k) r (with_points r (loaded_points bits ps k))) ≡ refusal_in h c
+  points-told = code_shown (points_refusal r bits (length ps) k) r (with_points r (loaded_points bits ps k)) ∙ points-refusal
 
   points_fit_lem : eqb (refusal_in h c) 0 ≡ true → PointsFit (loaded_points bits ps k)
   unfolding refusal_in when◌then◌else◌
@@ -88,22 +91,11 @@ module _ (s : System) (h : History) (t : Tied s h) (bits : ℕ) (ps : List ℤ) 
   unfolding told_by plain events_in after_call happens points_answer
   points-steps =
       let n = points_refusal r bits (length ps) k in
-      let q = points-refusal in
-      by_test (eqb n 0)
+      by_refusal n
       (λ e.
-      let d : eqb (refusal_in h c) 0 ≡ true = ap (λ (v : ℕ). eqb v 0) (sym q) ∙ e in
-      record {
-        refusal = ap (λ (a : Answered). a.refusal) (if_yes (eqb n 0) loaded (kept n) e) ∙ sym (eqb-true n 0 e) ∙ q;
-        events = refl;
-        tied = rw (if_yes (eqb n 0) loaded (kept n) e, if_yes (eqb (refusal_in h c) 0) (accepts h c) h d) (points-tied (points_fit_lem d));
-      })
-      (λ e.
-      let d : eqb (refusal_in h c) 0 ≡ false = ap (λ (v : ℕ). eqb v 0) (sym q) ∙ e in
-      record {
-        refusal = ap (λ (a : Answered). a.refusal) (if_no (eqb n 0) loaded (kept n) e) ∙ q;
-        events = refl;
-        tied = rw (if_no (eqb n 0) loaded (kept n) e, if_no (eqb (refusal_in h c) 0) (accepts h c) h d) t;
-      })
+      let d = taken_0 n (refusal_in h c) points-refusal e in
+      record { refusal = points-told; events = refl; tied = rw (e, if_yes (eqb (refusal_in h c) 0) (accepts h c) h d) (points-tied (points_fit_lem d)) })
+      (λ why e. record { refusal = points-told; events = refl; tied = rw (e, if_no (eqb (refusal_in h c) 0) (accepts h c) h (refused_0 n (refusal_in h c) why points-refusal e)) t })
 
 -- ---- calls that change the equaliser alone
 module _ (s : System) (h : History) (t : Tied s h) where
@@ -117,9 +109,13 @@ module _ (s : System) (h : History) (t : Tied s h) where
       let u = t.slots in
       record { idle = u.idle; held = u.held; empty = λ z. q ∙ u.empty z; full_line = λ z. q ∙ u.full_line z }
 
-  eq-answer : (e : Equaliser) → eq_answer r₀ e ≡ record { refusal = 0; receiver = with_eq r₀ e }
+  ranged : range_refusal r₀ ≡ Ok tt
+  unfolding range_refusal
+  ranged = if_yes (receiver_in_range r₀) (Ok tt) (Err Arithmetic) (in_range r₀ t.coherent)
+
+  eq-answer : (e : Equaliser) → eq_answer r₀ e ≡ Ok (with_eq r₀ e)
   unfolding eq_answer
-  eq-answer e = if_yes (receiver_in_range r₀) (record { refusal = 0; receiver = with_eq r₀ e }) (record { refusal = 6; receiver = r₀ }) (in_range r₀ t.coherent)
+  eq-answer e = rw ranged
 
   taps-tied : (ts : List ℤ) (frame : ℕ) → Tied (record { receiver = with_eq r₀ (loaded_eq r₀.back.eq ts frame); acc = s.acc; store = s.store }) (accepts h (taps ts frame))
   unfolding with_eq accepts loaded_eq
@@ -163,24 +159,24 @@ module _ (s : System) (h : History) (t : Tied s h) where
   unfolding told_by plain events_in after_call happens taps_answer refusal_in when◌then◌else◌
   taps-steps ts frame =
       let e = loaded_eq r₀.back.eq ts frame in
-      record { refusal = ap (λ (a : Answered). a.refusal) (eq-answer e); events = refl; tied = rw (eq-answer e) (taps-tied ts frame) }
+      record { refusal = ap (λ (a : Result Receiver (Refused Receiver)). code_in a) (eq-answer e); events = refl; tied = rw (eq-answer e) (taps-tied ts frame) }
 
   pub open-steps : (frame : ℕ) → Steps s h (opens frame)
   unfolding told_by plain events_in after_call happens open_answer refusal_in when◌then◌else◌
   open-steps frame =
       let e = with_sums r₀.back.eq true (empty_sums frame) in
-      record { refusal = ap (λ (a : Answered). a.refusal) (eq-answer e); events = refl; tied = rw (eq-answer e) (open-tied frame) }
+      record { refusal = ap (λ (a : Result Receiver (Refused Receiver)). code_in a) (eq-answer e); events = refl; tied = rw (eq-answer e) (open-tied frame) }
 
   -- ---- an end
   abbrev with-sums : Ended
-  with-sums = record { refusal = 0; receiver = with_eq r₀ (with_sums r₀.back.eq false (empty_sums 0)); ended = true; sums = r₀.back.eq.sums }
+  with-sums = record { receiver = with_eq r₀ (with_sums r₀.back.eq false (empty_sums 0)); sums = Some r₀.back.eq.sums }
 
   abbrev without : Ended
-  without = record { refusal = 0; receiver = r₀; ended = false; sums = empty_sums 0 }
+  without = record { receiver = r₀; sums = None }
 
-  pub end-answer : end_answer r₀ ≡ (when r₀.back.eq.opened then with-sums else without)
-  unfolding end_answer
-  end-answer = if_yes (receiver_in_range r₀) _ (record { refusal = 6; receiver = r₀; ended = false; sums = empty_sums 0 }) (in_range r₀ t.coherent)
+  pub end-answer : end_answer r₀ ≡ Ok (when r₀.back.eq.opened then with-sums else without)
+  unfolding end_answer ended_of
+  end-answer = rw ranged
 
   closed_tied : Tied (record { receiver = with_eq r₀ (with_sums r₀.back.eq false (empty_sums 0)); acc = s.acc; store = s.store }) (accepts h ends)
   unfolding with_eq accepts with_sums
@@ -220,12 +216,16 @@ module _ (s : System) (h : History) (t : Tied s h) where
   unfolding told_by events_in after_call happens refusal_in when◌then◌else◌
   end-steps =
       by_test r₀.back.eq.opened
-      (λ o.
-      let e : end_answer r₀ ≡ with-sums = end-answer ∙ rw o in
-      record { refusal = ap (λ (a : Ended). a.refusal) e; events = refl; tied = subst (λ (a : Ended). Tied (record { receiver = a.receiver; acc = s.acc; store = s.store }) (accepts h ends)) (sym e) closed_tied })
-      (λ o.
-      let e : end_answer r₀ ≡ without = end-answer ∙ rw o in
-      record { refusal = ap (λ (a : Ended). a.refusal) e; events = refl; tied = subst (λ (a : Ended). Tied (record { receiver = a.receiver; acc = s.acc; store = s.store }) (accepts h ends)) (sym e) (none-tied o) })
+      (λ o. ended with-sums (end-answer ∙ rw o) closed_tied)
+      (λ o. ended without (end-answer ∙ rw o) (none-tied o))
+    where
+      ended : (u : Ended) → end_answer r₀ ≡ Ok u → Tied (record { receiver = u.receiver; acc = s.acc; store = s.store }) (accepts h ends) → Steps s h ends
+      ended u e k =
+          record {
+            refusal = ap (λ (a : Result Ended (Refused Receiver)). code_in a) e;
+            events = refl;
+            tied = subst (λ (a : Result Ended (Refused Receiver)). Tied (record { receiver = receiver_ended a; acc = s.acc; store = s.store }) (accepts h ends)) (sym e) k;
+          }
 
   -- ---- a restart
   pub kept-now : kept_of r₀ ≡ kept_in h
@@ -235,13 +235,17 @@ module _ (s : System) (h : History) (t : Tied s h) where
       kept_eq t.nco t.taps t.from t.points last
 
   module _ (at : ℕ) where
-    restart-refusal : restart_refusal r₀ at (length s.acc) ≡ refusal_in h (restarts at own)
+    restart-refusal : code_of (restart_refusal r₀ at (length s.acc)) ≡ refusal_in h (restarts at own)
     unfolding restart_refusal refusal_in own_acc
     restart-refusal =
-        if_yes (eqb (length s.acc) 9296) _ 1 (eq-eqb (length s.acc) 9296 (acc-long s h t))
-        ∙ if_yes (receiver_in_range r₀) _ 6 (in_range r₀ t.coherent)
+        ap (λ (u : Result ⊤ Refusal). code_of u)
+        (if_yes (eqb (length s.acc) 9296) _ (Err Stores) (eq-eqb (length s.acc) 9296 (acc-long s h t)) ∙ if_yes (receiver_in_range r₀) _ (Err Arithmetic) (in_range r₀ t.coherent))
+        ∙ code_chosen (ltb at (next_of r₀)) (Err Position) (Ok tt) 7 0 (λ e. refl) (λ e. refl)
         ∙ ap (λ (n : ℕ). when ltb at n then 7 else 0) (next-is s h t)
         ∙ sym (if_yes true (when ltb at (next_in h) then 7 else 0) 1 refl)
+
+    restart-told : code_in (answered (restart_refusal r₀ at (length s.acc)) r₀ (started at (kept_of r₀))) ≡ refusal_in h (restarts at own)
+    restart-told = code_shown (restart_refusal r₀ at (length s.acc)) r₀ (started at (kept_of r₀)) ∙ restart-refusal
 
     restart-tied : Tied (record { receiver = started at (kept_of r₀); acc = replicate (length s.acc) 0; store = s.store }) (accepts h (restarts at own))
     unfolding accepts
@@ -252,34 +256,15 @@ module _ (s : System) (h : History) (t : Tied s h) where
         began : Tied (begins at (kept_in h) s.store) (begins_with at (kept_in h)) → Tied (record { receiver = started at (kept_in h); acc = replicate 9296 0; store = s.store }) (begins_with at (kept_in h))
         began b = unfold begins in b
 
-    abbrev anew : Answered
-    anew = record { refusal = 0; receiver = started at (kept_of r₀) }
-
-    abbrev stays : ℕ → Answered
-    stays n = record { refusal = n; receiver = r₀ }
-
     pub own-restart : Steps s h (restarts at own)
     unfolding told_by events_in after_call happens handed_acc kept_acc restart_answer restart_acc
     own-restart =
         let n = restart_refusal r₀ at (length s.acc) in
-        let z : List ℕ = replicate (length s.acc) 0 in
         let c = restarts at own in
-        let q = restart-refusal in
-        by_test (eqb n 0)
-        (λ e.
-        let d : eqb (refusal_in h c) 0 ≡ true = ap (λ (v : ℕ). eqb v 0) (sym q) ∙ e in
-        record {
-          refusal = ap (λ (a : Answered). a.refusal) (if_yes (eqb n 0) anew (stays n) e) ∙ sym (eqb-true n 0 e) ∙ q;
-          events = refl;
-          tied = rw (if_yes (eqb n 0) anew (stays n) e, if_yes (eqb n 0) z s.acc e, if_yes (eqb (refusal_in h c) 0) (accepts h c) h d) restart-tied;
-        })
-        (λ e.
-        let d : eqb (refusal_in h c) 0 ≡ false = ap (λ (v : ℕ). eqb v 0) (sym q) ∙ e in
-        record {
-          refusal = ap (λ (a : Answered). a.refusal) (if_no (eqb n 0) anew (stays n) e) ∙ q;
-          events = refl;
-          tied = rw (if_no (eqb n 0) anew (stays n) e, if_no (eqb n 0) z s.acc e, if_no (eqb (refusal_in h c) 0) (accepts h c) h d) t;
-        })
+        by_refusal n
+        (λ e. record { refusal = restart-told; events = refl; tied = rw (e, if_yes (eqb (refusal_in h c) 0) (accepts h c) h (taken_0 n (refusal_in h c) restart-refusal e)) restart-tied })
+        (λ why e.
+        record { refusal = restart-told; events = refl; tied = rw (e, if_no (eqb (refusal_in h c) 0) (accepts h c) h (refused_0 n (refusal_in h c) why restart-refusal e)) t })
 
     -- with accumulators that give 1
     pub wrong-restart : (acc : List ℕ) (e : eqb (length acc) 9296 ≡ false) → Steps s h (restarts at (wrong acc e))

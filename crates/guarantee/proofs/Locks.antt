@@ -1,4 +1,7 @@
 -- The lock, as the receiver has it and as a period's end tells it; relocking. Assumes nothing.
+use Rattle.sync_heads.specs.declared.FrameHead.{FrameHead}
+use Rattle.std.specs.Prelude.{Option, None, Some}
+use Rattle.sync_heads.specs.declared.Head.{Head}
 use Prim.Native.Nat.{ℕ, suc, ◌+◌, ◌-◌, ◌*◌, ◌≤◌, ◌<◌}
 use Rattle.guarantee.proofs.Early.{lost_locked}
 use Rattle.guarantee.proofs.Lists.{call_steps}
@@ -11,9 +14,6 @@ use Rattle.guarantee.specs.Demand.{in-first, in-second, in-third}
 use Rattle.guarantee.specs.History.{History, accepts, begins_with, ends_stretch, events_in, events_with, goes_on, happens, kept_in, kept_over, loses_by, loses_with, next_in, push_of, refusal_in, takes, with_symbol}
 use Rattle.laws.proofs.Tests.{and_both, by_test, if_both, neither, never}
 use Rattle.laws.specs.Choice.{if_no, if_yes, when◌then◌else◌}
-use Rattle.sync_heads.specs.declared.Headed.{Headed}
-use Rattle.sync_heads.specs.declared.Headed.TheVariants.{Nothing as NoHead, One as OneHead}
-use Rattle.sync_heads.specs.declared.Record.{Record}
 use Rattle.sync_heads.specs.declared.Taken.{Taken}
 use Rattle.receiver.specs.Symbol.{Input}
 use Rattle.sync_history.proofs.Theorems.{lock_theorem, no_lock_before}
@@ -25,7 +25,7 @@ use Rattle.sync_step.specs.declared.Events.{Events}
 use Rattle.sync_step.specs.declared.Run.{Run}
 use Rattle.sync_step.specs.declared.SyncStats.{SyncStats}
 use Rattle.sync_step.specs.Events.{event_of, heads_of, is_nothing, no_events, then_of}
-use Rattle.sync_step.specs.Step.{is_locked, offset_of}
+use Rattle.sync_step.specs.Step.{is_locked, offset_of, locked_offset}
 use Rattle.sync_tie.proofs.Claims.{lock_told, readings_tell}
 use Rattle.sync_tie.proofs.Follow.{follows}
 use Rattle.sync_tie.proofs.Heads.{tells-late}
@@ -107,10 +107,10 @@ tied_lock s h t =
     subst (LockIs h.pushes) (sym (ap (λ (y : Held). y.sync.run.lock) t.held)) (record { locked = w.locked; locked_only = w.locked_only })
 
 -- ---- a period's end among the events
-head-none : (k : Headed) (q : SyncStats) → IsPeriod q (event_of k) → ⊥
+head-none : (k : Option Head) (q : SyncStats) → IsPeriod q (event_of k) → ⊥
 unfolding event_of
-head-none NoHead q p = p
-head-none (OneHead g) q p = p
+head-none None q p = p
+head-none (Some g) q p = p
 
 among_heads : (k : Taken) (q : SyncStats) → Among (IsPeriod q) (heads_of k) → ⊥
 unfolding heads_of
@@ -148,7 +148,7 @@ then_only k q e =
     (if_both (λ (u : Events). Among (IsPeriod q) u → IsPeriod q e) (is_nothing es.second) b d (only_second es.first q e fa b refl refl refl)
     (only_third es.first es.second q e fa fb d refl refl refl))
 
-module _ (base : ℕ) (last : Record) (h : List Push) where
+module _ (base : ℕ) (last : Option FrameHead) (h : List Push) where
   abbrev taken : ℕ → Taken
   taken c = taken_at 9296 base last h c
 
@@ -179,11 +179,11 @@ module _ (base : ℕ) (last : Record) (h : List Push) where
 
   -- its flag and offset are those of the lock after it
   stats-lock : (c : ℕ) → ends_at 9296 base last h c ≡ true →
-      ((stats_at 9296 base last h c).locked ≡ is_locked (lock_at 9296 base last h (suc c))) × ((stats_at 9296 base last h c).offset ≡ offset_of (lock_at 9296 base last h (suc c)))
+      (stats_at 9296 base last h c).offset ≡ locked_offset (lock_at 9296 base last h (suc c))
   unfolding stats_at lock_at
   stats-lock c d =
       let n = next_end 9296 c (lit≤ tt) (ends-place 9296 base last h c d) in
-      rw n.0 (refl, refl)
+      rw n.0
 
 -- ---- the lock after a symbol that goes on
 lock_after : (s : System) (h : History) → Tied s h → 24 ≤ length h.pushes → lock_of s ≡ lock_at 9296 h.base h.last h.pushes (length h.pushes - 23)
@@ -197,7 +197,7 @@ no_period q (in-first p) = p
 no_period q (in-second p) = p
 no_period q (in-third p) = p
 
-tells_early : (base : ℕ) (last : Record) (g : List Push) (m : ℕ) → ltb m 23 ≡ true → tells 9296 base last g m ≡ no_events
+tells_early : (base : ℕ) (last : Option FrameHead) (g : List Push) (m : ℕ) → ltb m 23 ≡ true → tells 9296 base last g m ≡ no_events
 unfolding tells
 tells_early base last g m u = if_yes (ltb m 23) no_events (told_at 9296 base last g (m - 23)) u
 
@@ -208,7 +208,7 @@ either : (at : ℕ) (es : Events) → HeadAt at es.first ⊎ HeadAt at es.second
 either at es (inl p) = in-first p
 either at es (inr p) = in-second p
 
-markers_kept : (base : ℕ) (last : Record) (g : List Push) (c : ℕ) → rule.loses_at 9296 base last g c ≡ false → rule.markers_lose_at 9296 base last g c ≡ false
+markers_kept : (base : ℕ) (last : Option FrameHead) (g : List Push) (c : ℕ) → rule.loses_at 9296 base last g c ≡ false → rule.markers_lose_at 9296 base last g c ≡ false
 unfolding rule.loses_at
 markers_kept base last g c e = (neither (rule.markers_lose_at 9296 base last g c) (rule.ends_at 9296 base last g c && rule.eighth_ends 9296 base last g c) e).0
 
@@ -233,7 +233,7 @@ module _ (s : System) (h : History) (t : Tied s h) where
   kept-grown x = kept-before h.base h.last h.pushes (push_of h x) t.kept
 
   period-with : (x : Input) (soft : List ℤ) → loses_with h x ≡ false → (s' : System) → Tied s' (takes h x) → (q : SyncStats) → Among (IsPeriod q) (events_with h x) →
-      (q.locked ≡ is_locked (lock_of s')) × (q.offset ≡ offset_of (lock_of s'))
+      q.offset ≡ locked_offset (lock_of s')
   unfolding events_with
   period-with x soft e s' t' q w' =
       let m = length h.pushes in
@@ -248,10 +248,10 @@ module _ (s : System) (h : History) (t : Tied s h) where
       let v = period-told h.base h.last g (m - 23) q stays (subst (Among (IsPeriod q)) (tells-late 9296 h.base h.last g m l) w) in
       let k = stats-lock h.base h.last g (m - 23) v.0 in
       let n = grown-lock x e s' t' l in
-      (ap (λ (y : SyncStats). y.locked) (sym v.1) ∙ k.0 ∙ ap is_locked (sym n), ap (λ (y : SyncStats). y.offset) (sym v.1) ∙ k.1 ∙ ap offset_of (sym n)))
+      ap (λ (y : SyncStats). y.offset) (sym v.1) ∙ k ∙ ap locked_offset (sym n))
 
   period-by : (c : Call) → CallFits c → ends_stretch h c ≡ false → (q : SyncStats) → Among (IsPeriod q) (events_in h c) →
-      (q.locked ≡ is_locked (lock_of (after_call s c))) × (q.offset ≡ offset_of (lock_of (after_call s c)))
+      q.offset ≡ locked_offset (lock_of (after_call s c))
   unfolding events_in ends_stretch loses_by happens accepts
   period-by (symbol x a b soft) f e q w =
       let c = symbol x a b soft in

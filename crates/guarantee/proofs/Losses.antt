@@ -2,14 +2,14 @@
 use Prim.Native.Nat.{ℕ, ◌+◌, ◌-◌}
 use Rattle.guarantee.proofs.Alike.{Same, same-all}
 use Rattle.guarantee.proofs.Causes.{causes, eighth-lost, markers-lost}
-use Rattle.guarantee.proofs.Follow.{after_is, fits, own_wrong, wrong_any}
+use Rattle.guarantee.proofs.Follow.{after_is, fits, own-or-wrong}
 use Rattle.guarantee.proofs.Lists.{call_steps}
 use Rattle.guarantee.proofs.Lost.{Tells, lost-told, tells-loses}
 use Rattle.guarantee.proofs.Refusals.{own-refusal}
 use Rattle.guarantee.proofs.Taken.{lost-system, store_long}
 use Rattle.guarantee.proofs.Tied.{Tied, is_lost_lem, late_test}
 use Rattle.guarantee.specs.Calls.{Accumulators, Call, CallFits, InputFits, SlotStore, System, after_call, begins, told_all, told_by}
-use Rattle.guarantee.specs.Calls.{symbol, points, taps, opens, ends, restarts, own, wrong}
+use Rattle.guarantee.specs.Calls.{symbol, points, taps, opens, ends, restarts, own}
 use Rattle.guarantee.specs.Demand.{Among, LostAt, Losses, kept_after}
 use Rattle.guarantee.specs.Demand.{in-first, in-second, in-third}
 use Rattle.guarantee.specs.History.{History, events_in, events_with, kept_over, loses_by, loses_with, next_in, own_acc, own_store, refusal_in, with_symbol}
@@ -21,6 +21,7 @@ use Rattle.receiver.specs.Heads.{is_lost, loses_in}
 use Rattle.receiver.specs.Started.{started}
 use Rattle.receiver.specs.Symbol.{Input, Lent, store_after}
 use Rattle.receiver_laws.specs.Stores.{Agree}
+use Rattle.receiver_range.proofs.Codes.{let_through}
 use Rattle.receiver_range.proofs.Theorems.{symbol-accepts}
 use Rattle.sync_step.specs.declared.Event.{Event}
 use Rattle.sync_step.specs.declared.Event.TheVariants.{Nothing, Head, Period, Lost}
@@ -122,20 +123,26 @@ module _ (s : System) (h : History) (t : Tied s h) where
   own-lost x soft f e =
       let l : Lent = record { acc = s.acc; store = s.store; soft = soft } in
       let k = lost-parts s h t x soft own own e in
-      let z : symbol_refusal s.receiver x l ≡ 0 = own-refusal s h t x soft ∙ eqb-true (refusal_in h (symbol x own own soft)) 0 k.0 in
+      let z = let_through (symbol_refusal s.receiver x l) (own-refusal s h t x soft ∙ eqb-true (refusal_in h (symbol x own own soft)) 0 k.0) in
       let q = symbol-accepts s.receiver x l t.coherent (fits s h t x soft f) z in (
         store_after 9296 s.receiver x l,
         store_long s h t x soft q.takes q.room,
         after_is s h t x soft f z ∙ lost-system s h t x soft q.takes q.room k.1,
       )
 
+  symbol-lost : (x : Input) (a : Accumulators) (b : SlotStore) (soft : List ℤ) → InputFits x → loses_by h (symbol x a b soft) ≡ true →
+      (store : List ℤ) × (length store ≡ 18592) × (after_call s (symbol x a b soft) ≡ begins (next_in h + 1) (kept_over h x) store)
+  symbol-lost x a b soft f e =
+      own-or-wrong
+      (λ (u : Accumulators) (v : SlotStore). loses_by h (symbol x u v soft) ≡ true → (store : List ℤ) × (length store ≡ 18592) × (after_call s (symbol x u v soft) ≡ begins (next_in h + 1) (kept_over h x) store))
+      (own-lost x soft f)
+      (λ u v z d. absurd (never (sym d ∙ wrong_loses h x u v soft z))) a b e
+
   -- what a losing call leaves is a receiver that begins with the kept values
   pub lost-begins : (c : Call) → CallFits c → loses_by h c ≡ true →
       (store : List ℤ) × (length store ≡ 18592) × (after_call s c ≡ begins (next_in h + 1) (kept_after h c) store)
   unfolding loses_by kept_after
-  lost-begins (symbol x own own soft) f e = own-lost x soft f e
-  lost-begins (symbol x own (wrong sl d) soft) f e = absurd (never (sym e ∙ wrong_loses h x own (wrong sl d) soft (own_wrong sl d)))
-  lost-begins (symbol x (wrong al d) b soft) f e = absurd (never (sym e ∙ wrong_loses h x (wrong al d) b soft (wrong_any al d b)))
+  lost-begins (symbol x a b soft) f e = symbol-lost x a b soft f e
   lost-begins (points bits ps q) f e = absurd (never (sym e))
   lost-begins (taps ts frame) f e = absurd (never (sym e))
   lost-begins (opens frame) f e = absurd (never (sym e))

@@ -1,10 +1,10 @@
 -- A loss is told exactly where the pushes have one, with the position of the next symbol. Assumes nothing.
+use Rattle.sync_heads.specs.declared.FrameHead.{FrameHead}
+use Rattle.std.specs.Prelude.{Option, None, Some}
+use Rattle.sync_heads.specs.declared.Head.{Head as HeadTold}
 use Prim.Native.Nat.{ℕ, ◌+◌, ◌-◌}
 use Rattle.laws.proofs.Tests.{by_test, if_both, never}
 use Rattle.laws.specs.Choice.{when◌then◌else◌}
-use Rattle.sync_heads.specs.declared.Headed.{Headed}
-use Rattle.sync_heads.specs.declared.Headed.TheVariants.{Nothing as NoHead, One as OneHead}
-use Rattle.sync_heads.specs.declared.Record.{Record}
 use Rattle.sync_step.specs.Events.{event_of, is_nothing, no_events, then_of}
 use Rattle.sync_step.specs.declared.Event.{Event}
 use Rattle.sync_step.specs.declared.Event.TheVariants.{Nothing, Head, Period, Lost}
@@ -26,12 +26,12 @@ pub record Quiet (es : Events) : Type 0 where
   pub second : is_lost es.second ≡ false
   pub third : es.third ≡ Nothing
 
-head-quiet : (k : Headed) → is_lost (event_of k) ≡ false
+head-quiet : (k : Option HeadTold) → is_lost (event_of k) ≡ false
 unfolding is_lost event_of
-head-quiet NoHead = refl
-head-quiet (OneHead g) = refl
+head-quiet None = refl
+head-quiet (Some g) = refl
 
-heads_quiet : (a b : Headed) → Quiet (record { first = event_of a; second = event_of b; third = Nothing })
+heads_quiet : (a b : Option HeadTold) → Quiet (record { first = event_of a; second = event_of b; third = Nothing })
 heads_quiet a b = record { first = head-quiet a; second = head-quiet b; third = refl }
 
 quiet_none : (es : Events) → Quiet es → loses_in es ≡ false
@@ -111,7 +111,7 @@ not_lost : (p : SyncStats) → is_lost (Period p) ≡ false
 unfolding is_lost
 not_lost p = refl
 
-module _ (n base : ℕ) (last : Record) (h : List Push) where
+module _ (n base : ℕ) (last : Option FrameHead) (h : List Push) where
   quiet-at-heads : (c : ℕ) → Quiet (heads_at n base last h c)
   quiet-at-heads c = let w = heads-two n base last h c in subst Quiet (sym w.2) (heads_quiet w.0 w.1)
 

@@ -1,23 +1,25 @@
 -- What comes out of a call: all of the slot that it completes but its last five, behind the five of the slot before. Assumes nothing.
+use Rattle.std.specs.Prelude.{None, Some, Result, Ok}
+use Rattle.refusal.specs.declared.Refused.{Refused}
+use Rattle.receiver_range.proofs.Codes.{by_refusal, let_through, taken_0}
 use Prim.Native.Nat.{ℕ, ◌+◌, ◌-◌, ◌≤◌}
 use Rattle.frame.specs.Align.{joined_to}
 use Rattle.frame.specs.declared.Back.{Back}
 use Rattle.frame_line.specs.Line.{gap_at}
-use Rattle.guarantee.proofs.Follow.{answer_is, own_wrong, says-1, wrong_any}
+use Rattle.guarantee.proofs.Follow.{answer_is, own-or-wrong, says-1}
 use Rattle.guarantee.proofs.Lists.{call_steps}
-use Rattle.guarantee.proofs.Quiet.{no_head, no-slot-none, none-refused, one_not, quiet_none, refused_none}
+use Rattle.guarantee.proofs.Quiet.{no_head, no-slot-none, no-soft-by, quiet_none, refused_none, wrong-none}
 use Rattle.guarantee.proofs.Refusals.{own-refusal}
 use Rattle.guarantee.proofs.Slots.{Slots, first-due, later-due}
 use Rattle.guarantee.proofs.Tied.{Tied, events-are, head-locked, next-is, told_in}
-use Rattle.guarantee.specs.Calls.{Accumulators, Call, CallFits, InputFits, SlotStore, System, handed_acc, handed_store, lent_to, plain, told_by}
-use Rattle.guarantee.specs.Calls.{symbol, points, taps, opens, ends, restarts, own, wrong}
+use Rattle.guarantee.specs.Calls.{Accumulators, Call, CallFits, InputFits, SlotStore, System, handed_acc, handed_store, lent_to, told_by}
+use Rattle.guarantee.specs.Calls.{symbol, points, taps, opens, ends, restarts, own}
 use Rattle.guarantee.specs.Demand.{NoSoft, SlotTold}
 use Rattle.guarantee.specs.History.{History, events_in, events_with, refusal_in, run_in, runs_in, runs_with, slot_at}
 use Rattle.laws.proofs.Tests.{by_test, never}
 use Rattle.laws.specs.Choice.{if_no, if_yes, when◌then◌else◌}
-use Rattle.phase.specs.declared.Due.TheVariants.{Nothing as NoSlot, Slot}
 use Rattle.phase.specs.declared.WholeSlot.{WholeSlot}
-use Rattle.receiver.specs.Answers.{no_runs, symbol_refusal}
+use Rattle.receiver.specs.Answers.{no_runs, runs_told, symbol_refusal}
 use Rattle.receiver.specs.Symbol.{Input, Lent, aligned, heads, next_of, runs, synced}
 use Rattle.receiver.specs.declared.Answer.{Answer}
 use Rattle.receiver.specs.declared.Receiver.{Receiver}
@@ -36,7 +38,7 @@ use lib.IntN.{ℤ}
 use mathlib.Core.Bool.{false, true}
 use mathlib.Core.List.{List}
 use mathlib.Core.Logic.{◌⊎◌, inl, inr}
-use mathlib.Core.Path.{◌∙◌, ◌≡◌, ap, ap₂, refl, sym}
+use mathlib.Core.Path.{◌∙◌, ◌≡◌, ap, ap₂, sym}
 use native.Mathlib.Omega.{arith}
 
 -- a refused symbol tells no head
@@ -58,7 +60,7 @@ pub no_gap_next : (b : Back) (at : ℕ) → Adjoins at b → joined_to b at ≡ 
 unfolding joined_to gap_at when◌then◌else◌
 no_gap_next b at a = rw (a.last, eq-eqb (a.before + 1) at a.next)
 
-module _ (r : Receiver) (x : Input) (l : Lent) (c : CoherentReceiver r) (w : WholeSlot) (e : (heads 9296 r x l).due ≡ Slot w) where
+module _ (r : Receiver) (x : Input) (l : Lent) (c : CoherentReceiver r) (w : WholeSlot) (e : (heads 9296 r x l).due ≡ Some w) where
   pub few : r.back.metas.count ≤ 5
   few = go (due_is r x l c w e).back
     where
@@ -111,12 +113,12 @@ module _ (s : System) (h : History) (t : Tied s h) (x : Input) (soft : List ℤ)
   abbrev r₀ : Receiver
   r₀ = s.receiver
 
-  pub own_runs : symbol_refusal r₀ x l₀ ≡ 0 → (told_by s (symbol x own own soft)).runs ≡ runs 9296 r₀ x l₀
+  pub own_runs : symbol_refusal r₀ x l₀ ≡ Ok tt → (told_by s (symbol x own own soft)).runs ≡ runs 9296 r₀ x l₀
   unfolding told_by lent_to handed_acc handed_store
-  own_runs z = ap (λ (y : Answer). y.runs) (answer_is s h t x soft f z)
+  own_runs z = ap (λ (y : Result Answer (Refused Receiver)). runs_told y) (answer_is s h t x soft f z)
 
   -- a later head of the stretch
-  later-runs : symbol_refusal r₀ x l₀ ≡ 0 → any_head (synced 9296 r₀ x l₀).events ≡ true → 1 ≤ told_in h → (told_by s (symbol x own own soft)).runs ≡ runs_with h
+  later-runs : symbol_refusal r₀ x l₀ ≡ Ok tt → any_head (synced 9296 r₀ x l₀).events ≡ true → 1 ≤ told_in h → (told_by s (symbol x own own soft)).runs ≡ runs_with h
   unfolding runs_with run_in slot_at
   later-runs z a k =
       let d = later-due r₀ x l₀ t.coherent a (head-locked s h t x soft a) (t.slots.held k) in
@@ -134,64 +136,62 @@ module _ (s : System) (h : History) (t : Tied s h) (x : Input) (soft : List ℤ)
   unfolding events_in lent_to handed_acc handed_store
   own-none a =
       let c = symbol x own own soft in
-      by_test (eqb (symbol_refusal r₀ x l₀) 0)
+      by_refusal (symbol_refusal r₀ x l₀)
       (λ e.
-      let d : eqb (refusal_in h c) 0 ≡ true = ap (λ (n : ℕ). eqb n 0) (sym (own-refusal s h t x soft)) ∙ e in
-      quiet_none s h t x soft f (eqb-true (symbol_refusal r₀ x l₀) 0 e)
+      let d = taken_0 (symbol_refusal r₀ x l₀) (refusal_in h c) (own-refusal s h t x soft) e in
+      quiet_none s h t x soft f e
       (ap any_head (events-are s h t x soft) ∙ sym (ap any_head (if_yes (eqb (refusal_in h c) 0) (events_with h x) no_events d)) ∙ a))
-      (λ e. refused_none s x own own soft e)
+      (refused_none s x own own soft)
 
   own_first : told_in h ≡ 0 → NoSoft (symbol x own own soft) (told_by s (symbol x own own soft))
   unfolding lent_to handed_acc handed_store
   own_first k =
-      by_test (eqb (symbol_refusal r₀ x l₀) 0)
+      by_refusal (symbol_refusal r₀ x l₀)
       (λ e.
       by_test (any_head (synced 9296 r₀ x l₀).events)
-      (λ a. due-none (eqb-true (symbol_refusal r₀ x l₀) 0 e) (first-due r₀ x l₀ t.coherent a (t.slots.idle k)))
-      (λ a. quiet_none s h t x soft f (eqb-true (symbol_refusal r₀ x l₀) 0 e) a))
-      (λ e. refused_none s x own own soft e)
+      (λ a. due-none e (first-due r₀ x l₀ t.coherent a (t.slots.idle k)))
+      (λ a. quiet_none s h t x soft f e a))
+      (refused_none s x own own soft)
     where
-      due-none : symbol_refusal r₀ x l₀ ≡ 0 → (heads 9296 r₀ x l₀).due ≡ NoSlot → NoSoft (symbol x own own soft) (told_by s (symbol x own own soft))
+      due-none : symbol_refusal r₀ x l₀ ≡ Ok tt → (heads 9296 r₀ x l₀).due ≡ None → NoSoft (symbol x own own soft) (told_by s (symbol x own own soft))
       due-none z d = no-slot-none s h t x soft f z d
 
 -- ---- every call
 module _ (s : System) (h : History) (t : Tied s h) where
-  head-runs : (c : Call) → CallFits c → any_head (events_in h c) ≡ true → 1 ≤ told_in h → (told_by s c).runs ≡ runs_with h
+  own-head : (x : Input) (soft : List ℤ) → InputFits x → 1 ≤ told_in h → any_head (events_in h (symbol x own own soft)) ≡ true → (told_by s (symbol x own own soft)).runs ≡ runs_with h
   unfolding events_in
-  head-runs (symbol x own own soft) f a k =
+  own-head x soft f k a =
       let c = symbol x own own soft in
       by_test (eqb (refusal_in h c) 0)
       (λ e.
-      later-runs s h t x soft f (own-refusal s h t x soft ∙ eqb-true (refusal_in h c) 0 e)
+      later-runs s h t x soft f (let_through _ (own-refusal s h t x soft ∙ eqb-true (refusal_in h c) 0 e))
       (ap any_head (events-are s h t x soft) ∙ sym (ap any_head (if_yes (eqb (refusal_in h c) 0) (events_with h x) no_events e)) ∙ a) k)
       (λ e. absurd (never (sym a ∙ ap any_head (if_no (eqb (refusal_in h c) 0) (events_with h x) no_events e) ∙ no_head)))
-  head-runs (symbol x own (wrong sl d) soft) f a k = absurd (never (sym a ∙ wrong_quiet h x own (wrong sl d) soft (says-1 s h t x own (wrong sl d) soft (own_wrong sl d))))
-  head-runs (symbol x (wrong al d) b soft) f a k = absurd (never (sym a ∙ wrong_quiet h x (wrong al d) b soft (says-1 s h t x (wrong al d) b soft (wrong_any al d b))))
-  head-runs (points bits ps q) f a k = absurd (never (sym a ∙ no_head))
-  head-runs (taps ts frame) f a k = absurd (never (sym a ∙ no_head))
-  head-runs (opens frame) f a k = absurd (never (sym a ∙ no_head))
-  head-runs ends f a k = absurd (never (sym a ∙ no_head))
-  head-runs (restarts at u) f a k = absurd (never (sym a ∙ no_head))
+
+  head-runs : (c : Call) → CallFits c → any_head (events_in h c) ≡ true → 1 ≤ told_in h → (told_by s c).runs ≡ runs_with h
+  head-runs (symbol x a b soft) f e k =
+      own-or-wrong (λ (u : Accumulators) (v : SlotStore). any_head (events_in h (symbol x u v soft)) ≡ true → (told_by s (symbol x u v soft)).runs ≡ runs_with h)
+      (own-head x soft f k)
+      (λ u v z d. absurd (never (sym d ∙ wrong_quiet h x u v soft (says-1 s h t x u v soft z)))) a b e
+  head-runs (points bits ps q) f a k = unfold events_in in absurd (never (sym a ∙ no_head))
+  head-runs (taps ts frame) f a k = unfold events_in in absurd (never (sym a ∙ no_head))
+  head-runs (opens frame) f a k = unfold events_in in absurd (never (sym a ∙ no_head))
+  head-runs ends f a k = unfold events_in in absurd (never (sym a ∙ no_head))
+  head-runs (restarts at u) f a k = unfold events_in in absurd (never (sym a ∙ no_head))
 
   none-by : (c : Call) → CallFits c → any_head (events_in h c) ≡ false → NoSoft c (told_by s c)
-  none-by (symbol x own own soft) f a = own-none s h t x soft f a
-  none-by (symbol x own (wrong sl d) soft) f a = none-refused s h t (symbol x own (wrong sl d) soft) f (λ e. one_not (sym (says-1 s h t x own (wrong sl d) soft (own_wrong sl d)) ∙ e))
-  none-by (symbol x (wrong al d) b soft) f a = none-refused s h t (symbol x (wrong al d) b soft) f (λ e. one_not (sym (says-1 s h t x (wrong al d) b soft (wrong_any al d b)) ∙ e))
-  none-by (points bits ps q) f a = unfold told_by plain in record { runs = refl; soft = refl }
-  none-by (taps ts frame) f a = unfold told_by plain in record { runs = refl; soft = refl }
-  none-by (opens frame) f a = unfold told_by plain in record { runs = refl; soft = refl }
-  none-by ends f a = unfold told_by plain in record { runs = refl; soft = refl }
-  none-by (restarts at u) f a = unfold told_by plain in record { runs = refl; soft = refl }
+  none-by c f e =
+      no-soft-by s (λ (u : Call). CallFits u × (any_head (events_in h u) ≡ false))
+      (λ x a b soft p.
+      own-or-wrong (λ (u : Accumulators) (v : SlotStore). any_head (events_in h (symbol x u v soft)) ≡ false → NoSoft (symbol x u v soft) (told_by s (symbol x u v soft)))
+      (own-none s h t x soft p.0)
+      (λ u v z d. wrong-none s h t x u v soft p.0 z) a b p.1) c (f, e)
 
   first_by : (c : Call) → CallFits c → told_in h ≡ 0 → NoSoft c (told_by s c)
-  first_by (symbol x own own soft) f k = own_first s h t x soft f k
-  first_by (symbol x own (wrong sl d) soft) f k = none-refused s h t (symbol x own (wrong sl d) soft) f (λ e. one_not (sym (says-1 s h t x own (wrong sl d) soft (own_wrong sl d)) ∙ e))
-  first_by (symbol x (wrong al d) b soft) f k = none-refused s h t (symbol x (wrong al d) b soft) f (λ e. one_not (sym (says-1 s h t x (wrong al d) b soft (wrong_any al d b)) ∙ e))
-  first_by (points bits ps q) f k = unfold told_by plain in record { runs = refl; soft = refl }
-  first_by (taps ts frame) f k = unfold told_by plain in record { runs = refl; soft = refl }
-  first_by (opens frame) f k = unfold told_by plain in record { runs = refl; soft = refl }
-  first_by ends f k = unfold told_by plain in record { runs = refl; soft = refl }
-  first_by (restarts at u) f k = unfold told_by plain in record { runs = refl; soft = refl }
+  first_by c f k =
+      no-soft-by s CallFits
+      (λ x a b soft p.
+      own-or-wrong (λ (u : Accumulators) (v : SlotStore). NoSoft (symbol x u v soft) (told_by s (symbol x u v soft))) (own_first s h t x soft p k) (λ u v z. wrong-none s h t x u v soft p z) a b) c f
 
   first_runs : told_in h ≡ 0 → runs_with h ≡ no_runs
   unfolding runs_with

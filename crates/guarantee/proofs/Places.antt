@@ -1,4 +1,5 @@
 -- The aligned symbols of a call are those that its runs tell of. Assumes nothing.
+use Rattle.std.specs.Prelude.{Option, None, Some}
 use Prim.Native.Nat.{ℕ, zero, suc, ◌+◌}
 use Rattle.frame.specs.Align.{joined_to}
 use Rattle.frame.specs.declared.AlignedSymbol.{AlignedSymbol}
@@ -12,8 +13,6 @@ use Rattle.guarantee.specs.Demand.{Place, places_in, places_of}
 use Rattle.laws.proofs.Lists.{firsts-ext}
 use Rattle.laws.specs.Ranges.{firsts}
 use Rattle.phase.specs.Phase.{corrected_of}
-use Rattle.phase.specs.declared.Due.{Due}
-use Rattle.phase.specs.declared.Due.TheVariants.{Nothing as NoSlot, Slot}
 use Rattle.phase.specs.declared.WholeSlot.{WholeSlot}
 use Rattle.receiver.specs.Symbol.{Input, Lent, aligned, heads, runs}
 use Rattle.receiver.specs.declared.Receiver.{Receiver}
@@ -76,7 +75,7 @@ five_places : (f : ℕ → Place) {a b c d e : Place} → a ≡ f 0 → b ≡ f 
 unfolding firsts
 five_places f p q r s t = λ i. p i ∷ q i ∷ r i ∷ s i ∷ t i ∷ []
 
-module _ (r : Receiver) (x : Input) (l : Lent) (c : CoherentReceiver r) (w : WholeSlot) (e : (heads 9296 r x l).due ≡ Slot w) where
+module _ (r : Receiver) (x : Input) (l : Lent) (c : CoherentReceiver r) (w : WholeSlot) (e : (heads 9296 r x l).due ≡ Some w) where
   abbrev g : ℕ → Meta
   g j = meta_of (corrected_of w x.table l.store j)
 
@@ -133,13 +132,13 @@ module _ (r : Receiver) (x : Input) (l : Lent) (c : CoherentReceiver r) (w : Who
 
 -- ---- with no slot there are none
 module _ (r : Receiver) (x : Input) (l : Lent) (c : CoherentReceiver r) where
-  none-placed : (heads 9296 r x l).due ≡ NoSlot → places_in (aligned 9296 r x l) ≡ places_of (runs 9296 r x l).tail ++ places_of (runs 9296 r x l).body
+  none-placed : (heads 9296 r x l).due ≡ None → places_in (aligned 9296 r x l) ≡ places_of (runs 9296 r x l).tail ++ places_of (runs 9296 r x l).body
   unfolding runs runs_of waiting_before aligned aligned_all run_of places_in places_of no_run firsts
   none-placed e = rw (none-due r x l c e).0
 
   pub all_placed : places_in (aligned 9296 r x l) ≡ places_of (runs 9296 r x l).tail ++ places_of (runs 9296 r x l).body
   all_placed = go (heads 9296 r x l).due refl
     where
-      go : (d : Due) → (heads 9296 r x l).due ≡ d → places_in (aligned 9296 r x l) ≡ places_of (runs 9296 r x l).tail ++ places_of (runs 9296 r x l).body
-      go NoSlot e = none-placed e
-      go (Slot w) e = slot_placed r x l c w e
+      go : (d : Option WholeSlot) → (heads 9296 r x l).due ≡ d → places_in (aligned 9296 r x l) ≡ places_of (runs 9296 r x l).tail ++ places_of (runs 9296 r x l).body
+      go None e = none-placed e
+      go (Some w) e = slot_placed r x l c w e

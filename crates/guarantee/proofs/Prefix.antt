@@ -1,8 +1,9 @@
 -- What happened in a stretch stands as more symbols come: until one loses, the first m pushes of h ++ e tell what those of h tell. Assumes nothing.
+use Rattle.std.specs.Prelude.{Option}
+use Rattle.sync_heads.specs.declared.FrameHead.{FrameHead}
 use Prim.Native.Nat.{ℕ, zero, suc, ◌+◌, ◌-◌, ◌<◌, ◌≤◌}
 use Rattle.laws.proofs.Tests.{by_test}
 use Rattle.laws.specs.Choice.{if_no, when◌then◌else◌}
-use Rattle.sync_heads.specs.declared.Record.{Record}
 use Rattle.sync_step.specs.declared.Step.{Step}
 use Rattle.sync_step.specs.declared.Events.{Events}
 use Rattle.sync_tie.proofs.Theorems.{tie}
@@ -31,7 +32,7 @@ pushes_prefix n x h e zero l = refl
 pushes_prefix n x h e (suc m) l =
     ap (λ (y : Held). push_on n y (get_or (h ++ e) m no_push)) (pushes_prefix n x h e m (omega arith)) ∙ ap (push_on n (pushes n x h m)) (get_or-append h e no_push m l)
 
-module _ (n base : ℕ) (last : Record) (h e : List Push) (z : 0 < n) where
+module _ (n base : ℕ) (last : Option FrameHead) (h e : List Push) (z : 0 < n) where
   long : length h ≤ length (h ++ e)
   long = rw (length-append h e) (omega arith)
 
@@ -67,7 +68,7 @@ module _ (n base : ℕ) (last : Record) (h e : List Push) (z : 0 < n) where
   tells-prefix m l k = same-tells m l k (kept-prefix m (omega arith) k)
 
 -- the symbols that told a head
-pub told_prefix : (base : ℕ) (last : Record) (h e : List Push) (m : ℕ) → m ≤ length h → Kept 9296 base last h m → told_to base last (h ++ e) m ≡ told_to base last h m
+pub told_prefix : (base : ℕ) (last : Option FrameHead) (h e : List Push) (m : ℕ) → m ≤ length h → Kept 9296 base last h m → told_to base last (h ++ e) m ≡ told_to base last h m
 unfolding told_to
 told_prefix base last h e zero l k = refl
 told_prefix base last h e (suc m) l k =

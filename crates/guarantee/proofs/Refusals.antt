@@ -7,8 +7,13 @@ use Rattle.guarantee.specs.Calls.{Accumulators, SlotStore, System, handed_acc, h
 use Rattle.guarantee.specs.Calls.{symbol, own, wrong}
 use Rattle.guarantee.specs.History.{History, Training, full_by, next_in, own_acc, own_store, refusal_in, trainings_with}
 use Rattle.guarantee.specs.History.{none, since}
-use Rattle.laws.proofs.Tests.{and_both, if_cong, never}
+use Rattle.laws.proofs.Tests.{and_both, never}
 use Rattle.laws.specs.Choice.{if_yes, when◌then◌else◌}
+use Rattle.refusal.specs.declared.Refusal.{Refusal}
+use Rattle.refusal.specs.declared.Refusal.TheVariants.{Stores, Words, Table, Arithmetic, Position, Counts}
+use Rattle.refusal.specs.Refusals.{code_of}
+use Rattle.std.specs.Prelude.{Result, Ok, Err, ⊤}
+use Rattle.receiver_range.proofs.Codes.{code_chosen}
 use Rattle.receiver.specs.declared.Receiver.{Receiver}
 use Rattle.receiver.specs.Answers.{stores_fit, symbol_refusal}
 use Rattle.receiver.specs.Ranges.{receiver_in_range}
@@ -23,14 +28,8 @@ use lib.IntN.{ℤ}
 use lib.ListN.{length}
 use mathlib.Core.Bool.{Bool, false, true, ◌&&◌}
 use mathlib.Core.List.{List}
+use Rattle.std.proofs.lemmas.Bool.{and_left, and_right}
 use mathlib.Core.Path.{◌∙◌, ◌≡◌, ap, ap₂, refl}
-
-no_right : (a : Bool) {b : Bool} → b ≡ false → (a && b) ≡ false
-no_right false e = refl
-no_right true e = e
-
-and_no : (a b c : Bool) → (a && b) ≡ false → (a && b && c) ≡ false
-and_no a b c e = rw e
 
 -- 8, by the sums of the history
 full_by_lem : (u : Training) (r : Receiver) (x : Input) (l : Lent) (n : ℕ) → SumsTied u r.back.eq → Sums r x l n → full 9296 r x l ≡ full_by u n
@@ -62,20 +61,21 @@ module _ (s : System) (h : History) (t : Tied s h) (x : Input) (soft : List ℤ)
   unfolding stores_fit
   own-fit = rw (eq-eqb (length s.acc) 9296 (acc-long s h t), eq-eqb (length s.store) 18592 t.store)
 
-  pub own-refusal : symbol_refusal r x l ≡ refusal_in h (symbol x own own soft)
+  pub own-refusal : code_of (symbol_refusal r x l) ≡ refusal_in h (symbol x own own soft)
   unfolding symbol_refusal refusal_in own_acc own_store
   own-refusal =
       let ones = ones_of x.f && ones_of x.s in
       let long = eqb (length x.table) 1024 in
-      ap (λ (v : Bool). when v then when ones then when long then when receiver_in_range r then when past 9296 r x l then 7 else when full 9296 r x l then 8 else 0 else 6 else 3 else 2 else 1) own-fit
-      ∙ if_cong (true && true && leb 44880 (length soft)) _ 1 _ 1
+      ap (λ (v : Bool). code_of (when v then when ones then when long then when receiver_in_range r then when past 9296 r x l then Err Position else when full 9296 r x l then Err Counts else Ok tt else Err Arithmetic else Err Table else Err Words else Err Stores)) own-fit
+      ∙ code_chosen (true && true && leb 44880 (length soft)) _ (Err Stores) _ 1
       (λ a.
-      if_cong ones _ 2 _ 2
+      code_chosen ones _ (Err Words) _ 2
       (λ o.
       let b = and_both (ones_of x.f) (ones_of x.s) o in
-      if_cong long _ 3 _ 3
+      code_chosen long _ (Err Table) _ 3
       (λ u.
-      if_yes (receiver_in_range r) _ 6 (in_range r t.coherent)
+      ap (λ (v : Result ⊤ Refusal). code_of v) (if_yes (receiver_in_range r) _ (Err Arithmetic) (in_range r t.coherent))
+      ∙ code_chosen (past 9296 r x l) (Err Position) _ 7 _ (λ p. refl) (λ p. code_chosen (full 9296 r x l) (Err Counts) (Ok tt) 8 0 (λ q. refl) (λ q. refl))
       ∙ ap₂ (λ (p q : Bool). when p then 7 else when q then 8 else 0) past_by (full_is b.0 b.1))
       (λ u. refl))
       (λ o. refl))
@@ -85,6 +85,6 @@ module _ (s : System) (h : History) (t : Tied s h) (x : Input) (soft : List ℤ)
 pub wrong_fit : (s : System) (a : Accumulators) (b : SlotStore) (soft : List ℤ) → (own_acc a && own_store b) ≡ false → stores_fit (lent_to s a b soft) ≡ false
 unfolding stores_fit lent_to handed_acc handed_store own_acc own_store
 wrong_fit s own own soft e = absurd (never e)
-wrong_fit s own (wrong store d) soft e = and_no (eqb (length s.acc) 9296) (eqb (length store) 18592) (leb 44880 (length soft)) (no_right (eqb (length s.acc) 9296) d)
+wrong_fit s own (wrong store d) soft e = and_left (eqb (length s.acc) 9296 && eqb (length store) 18592) (leb 44880 (length soft)) (and_right (eqb (length s.acc) 9296) (eqb (length store) 18592) d)
 wrong_fit s (wrong acc d) own soft e = rw d
 wrong_fit s (wrong acc d) (wrong store f) soft e = rw d

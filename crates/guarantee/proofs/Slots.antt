@@ -1,14 +1,12 @@
 -- Slots and trainings of one symbol: k symbols of the stretch have told a head before it. Assumes nothing.
+use Rattle.std.specs.Prelude.{Option, None, Some}
 use Prim.Native.Nat.{ℕ, ◌+◌, ◌-◌, ◌%◌, ◌≤◌}
 use Rattle.frame.specs.declared.Back.{Back}
 use Rattle.frame.specs.Stretch.{after_all}
 use Rattle.guarantee.proofs.Heads.{head-heard, none-heard}
 use Rattle.laws.proofs.Tests.{by_test, never}
 use Rattle.laws.specs.Choice.{if_yes, when◌then◌else◌}
-use Rattle.phase.specs.declared.Due.TheVariants.{Nothing as NoSlot, Slot}
 use Rattle.phase.specs.declared.Held.{Held}
-use Rattle.phase.specs.declared.SlotPhase.{SlotPhase}
-use Rattle.phase.specs.declared.SlotPhase.TheVariants.{Idle, Holds}
 use Rattle.phase.specs.declared.WholeSlot.{WholeSlot}
 use Rattle.phase.specs.Phase.{begun_of, due_in, pushed_in, whole_of}
 use Rattle.receiver.specs.declared.Listened.{Listened}
@@ -35,12 +33,12 @@ use mathlib.Core.Path.{◌∙◌, ◌≡◌, ap, refl, subst, sym}
 use native.Mathlib.Omega.{arith}
 
 -- ---- a slot is held
-unfoldable pub is_held : SlotPhase → Bool
-is_held Idle = false
-is_held (Holds x) = true
+unfoldable pub is_held : Option Held → Bool
+is_held None = false
+is_held (Some x) = true
 
 -- what k symbols that told a head have made of slot phase and alignment: from the first on a slot is held, from the second on slots are aligned
-pub record Slots (k : ℕ) (p : SlotPhase) (b : Back) : Type 0 where
+pub record Slots (k : ℕ) (p : Option Held) (b : Back) : Type 0 where
   pub idle : k ≡ 0 → is_held p ≡ false
   pub held : 1 ≤ k → is_held p ≡ true
   pub empty : k ≤ 1 → b.eq.filled ≡ 0
@@ -58,22 +56,22 @@ pub record Sums (r : Receiver) (x : Input) (l : Lent) (n : ℕ) : Type 0 where
   pub closed : r.back.eq.opened ≡ false → full 9296 r x l ≡ false
 
 -- ---- the phase after the symbol
-pushed_held : (p : SlotPhase) (t : Bool) → is_held (when t then pushed_in 9296 p else p) ≡ is_held p
+pushed_held : (p : Option Held) (t : Bool) → is_held (when t then pushed_in 9296 p else p) ≡ is_held p
 unfolding pushed_in when◌then◌else◌ is_held
-pushed_held Idle true = refl
-pushed_held Idle false = refl
-pushed_held (Holds x) true = refl
-pushed_held (Holds x) false = refl
+pushed_held None true = refl
+pushed_held None false = refl
+pushed_held (Some x) true = refl
+pushed_held (Some x) false = refl
 
-held_is : (p : SlotPhase) → is_held p ≡ true → (x : Held) × (p ≡ Holds x)
+held_is : (p : Option Held) → is_held p ≡ true → (x : Held) × (p ≡ Some x)
 unfolding is_held
-held_is Idle e = absurd (never (sym e))
-held_is (Holds x) e = (x, refl)
+held_is None e = absurd (never (sym e))
+held_is (Some x) e = (x, refl)
 
-idle_is : (p : SlotPhase) → is_held p ≡ false → p ≡ Idle
+idle_is : (p : Option Held) → is_held p ≡ false → p ≡ None
 unfolding is_held
-idle_is Idle e = refl
-idle_is (Holds x) e = absurd (never e)
+idle_is None e = refl
+idle_is (Some x) e = absurd (never e)
 
 -- a head at the locked place finds the slot whole
 whole_now : (r : Run) (x : Held) (h : ℕ) → HeldFits r x → LockFits r.t h r.lock → locked_at r.lock ((r.t - 23) % 9296) ≡ true → x.count ≡ 9296
@@ -96,7 +94,7 @@ module _ (r : Receiver) (x : Input) (l : Lent) (c : CoherentReceiver r) where
   unfolding left after_all
   same_back e = rw e
 
-  no_sums : (heads 9296 r x l).due ≡ NoSlot → Sums r x l 0
+  no_sums : (heads 9296 r x l).due ≡ None → Sums r x l 0
   no_sums e =
       let d = none-due r x l c e in
       let b = same_back d.0 in
@@ -113,7 +111,7 @@ module _ (r : Receiver) (x : Input) (l : Lent) (c : CoherentReceiver r) where
   left-held = pushed_held (heads 9296 r x l).phase (enough 9296 r x l)
 
   -- ---- no head
-  pub none-heads : any_head es ≡ false → ((heads 9296 r x l).phase ≡ r.front.phase) × ((heads 9296 r x l).due ≡ NoSlot)
+  pub none-heads : any_head es ≡ false → ((heads 9296 r x l).phase ≡ r.front.phase) × ((heads 9296 r x l).due ≡ None)
   unfolding heads
   none-heads e =
       let k = none-heard 9296 _ es e in
@@ -142,13 +140,13 @@ module _ (r : Receiver) (x : Input) (l : Lent) (c : CoherentReceiver r) where
   begun-held e = left-held ∙ ap is_held (some-heads e).phase
 
   -- the first of the stretch: no slot was held
-  pub first-due : any_head es ≡ true → is_held r.front.phase ≡ false → (heads 9296 r x l).due ≡ NoSlot
+  pub first-due : any_head es ≡ true → is_held r.front.phase ≡ false → (heads 9296 r x l).due ≡ None
   unfolding due_in
-  first-due e i = let b = some-heads e in b.due ∙ ap (λ (p : SlotPhase). due_in 9296 p b.first) (idle_is r.front.phase i)
+  first-due e i = let b = some-heads e in b.due ∙ ap (λ (p : Option Held). due_in 9296 p b.first) (idle_is r.front.phase i)
 
   -- a later one: the slot held is whole, and began 9,296 before the window that the symbol completes
   pub later-due : any_head es ≡ true → locked_at r.front.sync.run.lock ((r.front.sync.run.t - 23) % 9296) ≡ true → is_held r.front.phase ≡ true →
-      (w : WholeSlot) × ((heads 9296 r x l).due ≡ Slot w) × (w.head.at + 9296 + 23 ≡ next_of r)
+      (w : WholeSlot) × ((heads 9296 r x l).due ≡ Some w) × (w.head.at + 9296 + 23 ≡ next_of r)
   unfolding due_in next_of whole_of
   later-due e k i =
       let b = some-heads e in
@@ -158,11 +156,11 @@ module _ (r : Receiver) (x : Input) (l : Lent) (c : CoherentReceiver r) where
       let n = whole_now r.front.sync.run y c.sync.heads f c.sync.lock k in
       let w = whole_of y.head b.first in (
         w,
-        b.due ∙ ap (λ (p : SlotPhase). due_in 9296 p b.first) h.1 ∙ if_yes (eqb y.count 9296) (Slot w) NoSlot (eq-eqb y.count 9296 n),
+        b.due ∙ ap (λ (p : Option Held). due_in 9296 p b.first) h.1 ∙ if_yes (eqb y.count 9296) (Some w) None (eq-eqb y.count 9296 n),
         omega (arith, f.counted, n),
       )
 
-  module _ (hf : ones_of x.f ≡ true) (hs : ones_of x.s ≡ true) (w : WholeSlot) (e : (heads 9296 r x l).due ≡ Slot w) where
+  module _ (hf : ones_of x.f ≡ true) (hs : ones_of x.s ≡ true) (w : WholeSlot) (e : (heads 9296 r x l).due ≡ Some w) where
     after_is : (left 9296 r x l).back ≡ after_all r.back (corrected_all 9296 w x.table l.store) x.f x.s
     unfolding left
     after_is = rw (slot_is r x l c w e)

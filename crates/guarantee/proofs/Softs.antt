@@ -1,20 +1,20 @@
 -- The soft bits of a call: they stand in the buffer, fit it, and are true. Assumes nothing.
+use Rattle.std.specs.Prelude.{Option, None, Some, Ok}
+use Rattle.receiver_range.proofs.Codes.{let_through}
+use Rattle.phase.specs.declared.Held.{Held}
+use Rattle.phase.specs.declared.WholeSlot.{WholeSlot}
 use Prim.Native.Nat.{ℕ, ◌≤◌}
 use Rattle.frame.specs.declared.Back.{Back}
-use Rattle.guarantee.proofs.Follow.{lent_is, own_wrong, says-1, wrong_any}
+use Rattle.guarantee.proofs.Follow.{lent_is, own-or-wrong, says-1}
 use Rattle.guarantee.proofs.Outs.{own_runs}
 use Rattle.guarantee.proofs.Places.{all_placed}
 use Rattle.guarantee.proofs.Quiet.{one_not}
 use Rattle.guarantee.proofs.Refusals.{own-refusal}
 use Rattle.guarantee.proofs.Tied.{Tied}
 use Rattle.guarantee.specs.Calls.{Accumulators, Call, CallFits, InputFits, SlotStore, System, handed_acc, handed_store, lent_to, told_by}
-use Rattle.guarantee.specs.Calls.{symbol, own, wrong}
+use Rattle.guarantee.specs.Calls.{symbol, own}
 use Rattle.guarantee.specs.Demand.{SingleClaim, SoftBits, places_in, places_of}
 use Rattle.guarantee.specs.History.{History, refusal_in}
-use Rattle.phase.specs.declared.Due.{Due}
-use Rattle.phase.specs.declared.Due.TheVariants.{Nothing as NoSlot, Slot}
-use Rattle.phase.specs.declared.SlotPhase.{SlotPhase}
-use Rattle.phase.specs.declared.SlotPhase.TheVariants.{Idle, Holds}
 use Rattle.receiver.specs.Answers.{symbol_lent, symbol_refusal}
 use Rattle.receiver_slot.specs.Aligned.{Between}
 use Rattle.receiver_slot.specs.Aligned.Between.{five, none}
@@ -39,15 +39,15 @@ none_between b u = none u.none
 five_between : (at : ℕ) (b : Back) → Adjoins at b → Between b.metas
 five_between at b a = five a.five a.first.j a.second.j a.third.j a.fourth.j a.fifth.j
 
-between : (p : SlotPhase) (b : Back) → BackFits p b → Between b.metas
-between Idle b u = none_between b u
-between (Holds x) b e = ⊎_elim (none_between b) (five_between x.head.at b) e
+between : (p : Option Held) (b : Back) → BackFits p b → Between b.metas
+between None b u = none_between b u
+between (Some x) b e = ⊎_elim (none_between b) (five_between x.head.at b) e
 
 -- ---- they fit
-due_fit : (d : Due) (p : Points) (b : Back) (table store f s : List ℤ) → p.bits ≤ 5 → Between b.metas → length (soft_all p (aligned_all b (due_symbols 9296 d table store) f s)) ≤ 44880
+due_fit : (d : Option WholeSlot) (p : Points) (b : Back) (table store f s : List ℤ) → p.bits ≤ 5 → Between b.metas → length (soft_all p (aligned_all b (due_symbols 9296 d table store) f s)) ≤ 44880
 unfolding due_symbols
-due_fit NoSlot p b table store f s l w = unfold soft_all aligned_all in omega arith
-due_fit (Slot k) p b table store f s l w = softs_fit p b k table store f s l w
+due_fit None p b table store f s l w = unfold soft_all aligned_all in omega arith
+due_fit (Some k) p b table store f s l w = softs_fit p b k table store f s l w
 
 module _ (s : System) (h : History) (t : Tied s h) (x : Input) (soft : List ℤ) (f : InputFits x) where
   abbrev l : Lent
@@ -62,12 +62,12 @@ module _ (s : System) (h : History) (t : Tied s h) (x : Input) (soft : List ℤ)
       due_fit (heads 9296 r x l).due h.points r.back x.table s.store x.f x.s (subst (λ (p : Points). p.bits ≤ 5) t.points t.coherent.points.bits)
       (between r.front.phase r.back t.coherent.back)
 
-  all-stand : symbol_refusal r x l ≡ 0 → (symbol_lent r x l).soft ≡ written_on (soft_all h.points (aligned 9296 r x l)) soft
+  all-stand : symbol_refusal r x l ≡ Ok tt → (symbol_lent r x l).soft ≡ written_on (soft_all h.points (aligned 9296 r x l)) soft
   unfolding lent_after soft_after
   all-stand z =
       ap (λ (y : Lent). y.soft) (lent_is s h t x soft f z) ∙ ap (λ (p : Points). written_on (soft_all p (aligned 9296 r x l)) soft) t.points
 
-  placed_by : symbol_refusal r x l ≡ 0 →
+  placed_by : symbol_refusal r x l ≡ Ok tt →
       places_in (aligned 9296 r x l) ≡ places_of (told_by s (symbol x own own soft)).runs.tail ++ places_of (told_by s (symbol x own own soft)).runs.body
   placed_by z =
       all_placed r x l t.coherent
@@ -76,7 +76,7 @@ module _ (s : System) (h : History) (t : Tied s h) (x : Input) (soft : List ℤ)
   own-softs : (rest : List Call) → refusal_in h (symbol x own own soft) ≡ 0 → SoftBits h s (symbol x own own soft) (told_by s (symbol x own own soft)) rest x (lent_to s own own soft)
   unfolding told_by lent_to handed_acc handed_store
   own-softs rest e =
-      let z = own-refusal s h t x soft ∙ e in
+      let z = let_through (symbol_refusal r x l) (own-refusal s h t x soft ∙ e) in
       record { placed = placed_by z; stand = all-stand z; fit = all_fit; are-true = softs_true h.points (aligned 9296 r x l) }
 
 pub soft_bits : (s : System) (h : History) → Tied s h → (c : Call) → CallFits c → (rest : List Call) → (x : Input) (a : Accumulators) (b : SlotStore) (soft : List ℤ) →
@@ -85,9 +85,11 @@ soft_bits s h t c f rest x a b soft e z = subst (λ (k : Call). CallFits k → r
   where
     go : (a : Accumulators) (b : SlotStore) → CallFits (symbol x a b soft) → refusal_in h (symbol x a b soft) ≡ 0 →
         SoftBits h s (symbol x a b soft) (told_by s (symbol x a b soft)) rest x (lent_to s a b soft)
-    go own own f z = own-softs s h t x soft f rest z
-    go own (wrong sl d) f z = absurd (one_not (sym (says-1 s h t x own (wrong sl d) soft (own_wrong sl d)) ∙ z))
-    go (wrong al d) b f z = absurd (one_not (sym (says-1 s h t x (wrong al d) b soft (wrong_any al d b)) ∙ z))
+    go =
+        own-or-wrong
+        (λ (u : Accumulators) (v : SlotStore). CallFits (symbol x u v soft) → refusal_in h (symbol x u v soft) ≡ 0 → SoftBits h s (symbol x u v soft) (told_by s (symbol x u v soft)) rest x (lent_to s u v soft))
+        (λ f z. own-softs s h t x soft f rest z)
+        (λ u v w f z. absurd (one_not (sym (says-1 s h t x u v soft w) ∙ z)))
 
 pub single : SingleClaim
 single = bit_true

@@ -1,7 +1,8 @@
 -- One symbol more of a stretch: what the slot sync makes of it. Assumes nothing.
+use Rattle.std.specs.Prelude.{Option}
+use Rattle.sync_heads.specs.declared.FrameHead.{FrameHead}
 use Prim.Native.Nat.{ℕ, suc, ◌+◌, ◌-◌, ◌≤◌}
 use Rattle.laws.proofs.Tests.{by_test}
-use Rattle.sync_heads.specs.declared.Record.{Record}
 use Rattle.sync_step.specs.declared.Run.{Run}
 use Rattle.sync_tie.proofs.Follow.{follows}
 use Rattle.sync_tie.proofs.Theorems.{kept-fold, tie}
@@ -19,7 +20,7 @@ use mathlib.Core.List.{List, [], ◌∷◌, ◌++◌}
 use mathlib.Core.Path.{◌∙◌, ◌≡◌, ap, sym, subst}
 use native.Mathlib.Omega.{arith}
 
-module _ (base : ℕ) (last : Record) (h : List Push) (p : Push) where
+module _ (base : ℕ) (last : Option FrameHead) (h : List Push) (p : Push) where
   abbrev pub grown : List Push
   grown = h ++ (p ∷ [])
 

@@ -1,7 +1,8 @@
 -- An accepted symbol keeps the tie: the one that goes on, and the one that loses. Assumes nothing.
+use Rattle.sync_heads.specs.declared.FrameHead.{FrameHead}
+use Rattle.std.specs.Prelude.{Option}
 use Prim.Native.Nat.{ℕ, suc, ◌+◌, ◌-◌, ◌^◌, ◌<◌}
 use Rattle.carrier.specs.declared.Nco.{Nco}
-use Rattle.eq.specs.declared.TapsFrom.{TapsFrom}
 use Rattle.eq.specs.Eq.{started_eq}
 use Rattle.frame.specs.Align.{started_back}
 use Rattle.receiver_slot.specs.declared.Points.{Points}
@@ -25,7 +26,6 @@ use Rattle.receiver_range.proofs.Symbols.{Takes, coherent-symbol}
 use Rattle.receiver_range.specs.Coherent.{CoherentReceiver}
 use Rattle.sync.specs.Sync.{started_sync}
 use Rattle.sync_step.specs.Step.{started_of}
-use Rattle.sync_heads.specs.declared.Record.{Record}
 use Rattle.sync_step.specs.declared.Events.{Events}
 use Rattle.sync_tie.specs.Claims.{any_head}
 use Rattle.sync_tie.specs.Stretch.{record_at}
@@ -45,15 +45,15 @@ sums_on none r x l n t k f = k.opened ∙ t
 sums_on (since frame m) r x l n t k f = (k.opened ∙ t.0, k.counted t.0 ∙ ap (λ (v : ℕ). v + n) t.1, (f.sums (k.opened ∙ t.0)).1 ∙ t.2)
 
 -- ---- a start
-pub kept_eq : {n k : Nco} {a b : List ℤ} {c d : TapsFrom} {p q : Points} {u v : Record} → n ≡ k → a ≡ b → c ≡ d → p ≡ q → u ≡ v →
+pub kept_eq : {n k : Nco} {a b : List ℤ} {c d : Option ℕ} {p q : Points} {u v : Option FrameHead} → n ≡ k → a ≡ b → c ≡ d → p ≡ q → u ≡ v →
     ◌≡◌ {A = KeptValues} (record { phase = n.phase; freq = n.freq; taps = a; from = c; points = p; last = u })
     (record { phase = k.phase; freq = k.freq; taps = b; from = d; points = q; last = v })
 kept_eq {n} {k} {a} {b} {c} {d} {p} {q} {u} {v} en ea ec ep eu =
     ap (λ (y : Nco). record { phase = y.phase; freq = y.freq; taps = a; from = c; points = p; last = u }) en
     ∙ ap (λ (y : List ℤ). record { phase = k.phase; freq = k.freq; taps = y; from = c; points = p; last = u }) ea
-    ∙ ap (λ (y : TapsFrom). record { phase = k.phase; freq = k.freq; taps = b; from = y; points = p; last = u }) ec
+    ∙ ap (λ (y : Option ℕ). record { phase = k.phase; freq = k.freq; taps = b; from = y; points = p; last = u }) ec
     ∙ ap (λ (y : Points). record { phase = k.phase; freq = k.freq; taps = b; from = d; points = y; last = u }) ep
-    ∙ ap (λ (y : Record). record { phase = k.phase; freq = k.freq; taps = b; from = d; points = q; last = y }) eu
+    ∙ ap (λ (y : Option FrameHead). record { phase = k.phase; freq = k.freq; taps = b; from = d; points = q; last = y }) eu
 
 abbrev zeros : ℕ → List ℕ
 zeros n = replicate n 0

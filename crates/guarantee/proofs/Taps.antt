@@ -1,6 +1,7 @@
 -- Corrected symbols leave the taps and their frame, and the frame of open sums. Assumes nothing.
 use Rattle.eq.specs.declared.Equaliser.{Equaliser}
 use Rattle.eq.specs.Eq.{pushed_eq, started_eq, trained_eq, trains_eq, with_sums}
+use Rattle.eq_range.proofs.Kept.{trains_open}
 use Rattle.eq_train.specs.Train.{trained_sums}
 use Rattle.frame.specs.declared.Back.{Back}
 use Rattle.frame.specs.declared.Pushed.{Pushed}
@@ -8,12 +9,14 @@ use Rattle.frame.specs.Align.{joined_to, pushed_back, restarted_back, started_ba
 use Rattle.frame.specs.Stretch.{after_all}
 use Rattle.frame_line.specs.declared.Meta.{Meta}
 use Rattle.frame_line.specs.Line.{gap_at}
+use Rattle.refusal.specs.declared.Refusal.{Refusal}
+use Rattle.std.specs.Prelude.{Result, Ok, Err}
 use Rattle.frame_map.specs.declared.SlotPart.{SlotPart}
-use Rattle.frame_map.specs.declared.SlotPart.TheVariants.{Sync, Pilot, Main, Tmcc, Refused}
+use Rattle.frame_map.specs.declared.SlotPart.TheVariants.{Sync, Pilot, Main, Tmcc}
 use Rattle.frame_map.specs.Map.{part_of}
-use Rattle.laws.proofs.Tests.{and_both, if_both, if_either, never}
+use Rattle.laws.proofs.Tests.{if_both, if_either, never}
 use Rattle.phase.specs.declared.Corrected.{Corrected}
-use lib.Dec.{leb, ltb}
+use lib.Dec.{ltb}
 use lib.IntN.{ℤ}
 use mathlib.Core.Bool.{true}
 use mathlib.Core.List.{List, [], ◌∷◌}
@@ -28,17 +31,13 @@ pub record SameTaps (a b : Equaliser) : Type 0 where
 same : (e : Equaliser) → SameTaps e e
 same e = record { taps = refl; from = refl; sums = λ o. (o, refl) }
 
-trains_open : (e : Equaliser) → trains_eq e ≡ true → e.opened ≡ true
-unfolding trains_eq
-trains_open e t = (and_both e.opened (leb 11 e.filled) t).0
-
-trained_taps : (p : SlotPart) (e : Equaliser) (m : Meta) (f s : List ℤ) → SameTaps (trained_part p e m f s) e
+trained_taps : (p : Result SlotPart Refusal) (e : Equaliser) (m : Meta) (f s : List ℤ) → SameTaps (trained_part p e m f s) e
 unfolding trained_part trained_eq with_sums trained_sums
-trained_taps (Sync k) e m f s = if_either (λ (u : Equaliser). SameTaps u e) (trains_eq e) _ e (λ t. record { taps = refl; from = refl; sums = λ o. (trains_open e t, refl) }) (λ t. same e)
-trained_taps (Pilot k) e m f s = same e
-trained_taps (Main k) e m f s = same e
-trained_taps (Tmcc k) e m f s = same e
-trained_taps (Refused n) e m f s = same e
+trained_taps (Ok (Sync k)) e m f s = if_either (λ (u : Equaliser). SameTaps u e) (trains_eq e) _ e (λ t. record { taps = refl; from = refl; sums = λ o. (trains_open e t, refl) }) (λ t. same e)
+trained_taps (Ok (Pilot k)) e m f s = same e
+trained_taps (Ok (Main k)) e m f s = same e
+trained_taps (Ok (Tmcc k)) e m f s = same e
+trained_taps (Err n) e m f s = same e
 
 taken_taps : (b : Back) (c : Corrected) (f s : List ℤ) → SameTaps (taken_by b c f s).back.eq b.eq
 unfolding taken_by pushed_eq trained_at

@@ -13,6 +13,8 @@ use Rattle.guarantee.specs.Calls.{Call, CallFits, CallsFit, System, after_calls,
 use Rattle.guarantee.specs.Demand.{CallClaims, DemandClaim, SingleClaim}
 use Rattle.guarantee.specs.History.{History, begins_with, happen_all}
 use Rattle.laws.specs.Choice.{if_yes}
+use Rattle.refusal.specs.declared.Refusal.TheVariants.{Stores}
+use Rattle.std.specs.Prelude.{Ok, Err}
 use Rattle.receiver.specs.Answers.{new_acc, new_answer}
 use Rattle.receiver.specs.Started.{new_kept, started}
 use Rattle.sync_history.specs.History.{Premise}
@@ -42,13 +44,13 @@ call_claims s h t c f rest =
 
 -- an accepted new receiver
 new_is : (at : ℕ) (step : ℤ) (acc : List ℕ) → length acc ≡ 9296 →
-    (new_answer at step acc ≡ record { refusal = 0; receiver = started at (new_kept step) }) × (new_acc acc ≡ replicate 9296 0)
+    (new_answer at step acc ≡ Ok (started at (new_kept step))) × (new_acc acc ≡ replicate 9296 0)
 unfolding new_answer new_acc
 new_is at step acc e =
     let q = eq-eqb (length acc) 9296 e in
     let k = started at (new_kept step) in
     let z : List ℕ = replicate (length acc) 0 in (
-      if_yes (eqb (length acc) 9296) (record { refusal = 0; receiver = k }) (record { refusal = 1; receiver = k }) q,
+      if_yes (eqb (length acc) 9296) (Ok k) (Err (record { why = Stores; state = k })) q,
       if_yes (eqb (length acc) 9296) z acc q ∙ ap (λ (n : ℕ). replicate n 0) e,
     )
 

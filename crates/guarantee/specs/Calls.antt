@@ -1,17 +1,17 @@
 -- A list of a receiver's calls, and what each of them tells.
-use Rattle.std.specs.Prelude.{ℕ, ◌<◌, Bool, false, List, [], ◌∷◌, ◌≡◌, eqb, ℤ, pos, length, get_or, replicate}
+use Rattle.std.specs.Prelude.{ℕ, ◌<◌, false, List, [], ◌∷◌, ◌≡◌, eqb, ℤ, pos, length, get_or, replicate, Option, None}
 use Rattle.std.specs.Int.{w8, w16}
 use Rattle.std.proofs.Common.{SFits}
 use Rattle.sync_step.specs.declared.Events.{Events}
 use Rattle.sync_step.specs.Events.{no_events}
 use Rattle.sums.specs.declared.Sums.{Sums}
-use Rattle.sums.specs.Sums.{empty_sums}
+use Rattle.refusal.specs.Refusals.{state_after}
 use Rattle.receiver.specs.declared.Receiver.{Receiver}
 use Rattle.receiver.specs.declared.Kept.{Kept}
 use Rattle.receiver_slot.specs.declared.Runs.{Runs}
 use Rattle.receiver.specs.Started.{started}
 use Rattle.receiver.specs.Symbol.{Input, Lent}
-use Rattle.receiver.specs.Answers.{no_runs, symbol_answer, symbol_lent, points_answer, taps_answer, open_answer, end_answer, restart_answer, restart_acc}
+use Rattle.receiver.specs.Answers.{code_in, receiver_left, events_told, runs_told, receiver_ended, sums_ended, no_runs, symbol_answer, symbol_lent, points_answer, taps_answer, open_answer, end_answer, restart_answer, restart_acc}
 
 -- ---- calls
 -- the accumulators and the slot store "as the calls before left them, or stores that give 1"
@@ -86,14 +86,14 @@ unfoldable pub after_call : System → Call → System
 after_call s (symbol x a b soft) =
     let l = lent_to s a b soft in
     let m = symbol_lent s.receiver x l in
-    record { receiver = (symbol_answer s.receiver x l).receiver; acc = kept_acc s a m.acc; store = kept_store s b m.store }
-after_call s (points bits ps k) = record { receiver = (points_answer s.receiver bits ps k).receiver; acc = s.acc; store = s.store }
-after_call s (taps ts frame) = record { receiver = (taps_answer s.receiver ts frame).receiver; acc = s.acc; store = s.store }
-after_call s (opens frame) = record { receiver = (open_answer s.receiver frame).receiver; acc = s.acc; store = s.store }
-after_call s ends = record { receiver = (end_answer s.receiver).receiver; acc = s.acc; store = s.store }
+    record { receiver = receiver_left (symbol_answer s.receiver x l); acc = kept_acc s a m.acc; store = kept_store s b m.store }
+after_call s (points bits ps k) = record { receiver = state_after (points_answer s.receiver bits ps k); acc = s.acc; store = s.store }
+after_call s (taps ts frame) = record { receiver = state_after (taps_answer s.receiver ts frame); acc = s.acc; store = s.store }
+after_call s (opens frame) = record { receiver = state_after (open_answer s.receiver frame); acc = s.acc; store = s.store }
+after_call s ends = record { receiver = receiver_ended (end_answer s.receiver); acc = s.acc; store = s.store }
 after_call s (restarts at a) =
     let acc = handed_acc s a in
-    record { receiver = (restart_answer s.receiver at acc).receiver; acc = kept_acc s a (restart_acc s.receiver at acc); store = s.store }
+    record { receiver = state_after (restart_answer s.receiver at acc); acc = kept_acc s a (restart_acc s.receiver at acc); store = s.store }
 
 unfoldable pub after_calls : System → List Call → System
 after_calls s [] = s
@@ -102,11 +102,12 @@ after_calls s (c ∷ cs) = after_calls (after_call s c) cs
 -- ---- what a call tells: "each refusal number, each answer with its events in order and all their fields, the soft buffers' bytes and the
 -- accumulators"; "the receiver handed back and the slot store are not compared"
 pub record Told : Type 0 where
+  -- 0 for an accepted call
   pub refusal : ℕ
   pub events : Events
   pub runs : Runs
-  pub ended : Bool
-  pub sums : Sums
+  -- those that an end gives back, if there were open ones
+  pub sums : Option Sums
   -- the soft buffer that was lent, afterwards
   pub soft : List ℤ
   -- the accumulators that were lent, afterwards
@@ -115,7 +116,7 @@ pub record Told : Type 0 where
   pub acc : List ℕ
 
 unfoldable pub plain : System → ℕ → Told
-plain s n = record { refusal = n; events = no_events; runs = no_runs; ended = false; sums = empty_sums 0; soft = []; lent = []; acc = s.acc }
+plain s n = record { refusal = n; events = no_events; runs = no_runs; sums = None; soft = []; lent = []; acc = s.acc }
 
 unfoldable pub told_by : System → Call → Told
 told_by s (symbol x a b soft) =
@@ -123,26 +124,24 @@ told_by s (symbol x a b soft) =
     let r = symbol_answer s.receiver x l in
     let m = symbol_lent s.receiver x l in
     record {
-      refusal = r.refusal;
-      events = r.events;
-      runs = r.runs;
-      ended = false;
-      sums = empty_sums 0;
+      refusal = code_in r;
+      events = events_told r;
+      runs = runs_told r;
+      sums = None;
       soft = m.soft;
       lent = m.acc;
       acc = kept_acc s a m.acc;
     }
-told_by s (points bits ps k) = plain s (points_answer s.receiver bits ps k).refusal
-told_by s (taps ts frame) = plain s (taps_answer s.receiver ts frame).refusal
-told_by s (opens frame) = plain s (open_answer s.receiver frame).refusal
+told_by s (points bits ps k) = plain s (code_in (points_answer s.receiver bits ps k))
+told_by s (taps ts frame) = plain s (code_in (taps_answer s.receiver ts frame))
+told_by s (opens frame) = plain s (code_in (open_answer s.receiver frame))
 told_by s ends =
     let r = end_answer s.receiver in
     record {
-      refusal = r.refusal;
+      refusal = code_in r;
       events = no_events;
       runs = no_runs;
-      ended = r.ended;
-      sums = r.sums;
+      sums = sums_ended r;
       soft = [];
       lent = [];
       acc = s.acc;
@@ -151,11 +150,10 @@ told_by s (restarts at a) =
     let acc = handed_acc s a in
     let left = restart_acc s.receiver at acc in
     record {
-      refusal = (restart_answer s.receiver at acc).refusal;
+      refusal = code_in (restart_answer s.receiver at acc);
       events = no_events;
       runs = no_runs;
-      ended = false;
-      sums = empty_sums 0;
+      sums = None;
       soft = [];
       lent = left;
       acc = kept_acc s a left;

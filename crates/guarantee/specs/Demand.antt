@@ -1,6 +1,6 @@
 -- DEMAND 3. For every list of a receiver's calls from a new one on, and for every loss in it. docs/GUARANTEE.md has it sentence by sentence beside
 -- the order and document 01.
-use Rattle.std.specs.Prelude.{ℕ, suc, ◌+◌, ◌-◌, ◌*◌, ◌/◌, ◌%◌, ◌≤◌, ◌<◌, true, false, List, [], ◌∷◌, ◌++◌, ◌⊎◌, ◌≡◌, eqb, ltb, ℤ, pos, length, get_or, replicate}
+use Rattle.std.specs.Prelude.{ℕ, suc, ◌+◌, ◌-◌, ◌*◌, ◌/◌, ◌%◌, ◌≤◌, ◌<◌, true, false, List, [], ◌∷◌, ◌++◌, ◌⊎◌, ◌≡◌, eqb, ltb, ℤ, pos, length, get_or, replicate, Ok, Some, is_some}
 use Rattle.laws.specs.Choice.{when◌then◌else◌}
 use Rattle.laws.specs.Ranges.{firsts}
 use Rattle.sync_lock.specs.declared.Lock.{Lock}
@@ -8,12 +8,12 @@ use Rattle.sync_step.specs.declared.Event.{Event}
 use Rattle.sync_step.specs.declared.Event.TheVariants.{Nothing, Head, Period, Lost}
 use Rattle.sync_step.specs.declared.Events.{Events}
 use Rattle.sync_step.specs.declared.SyncStats.{SyncStats}
-use Rattle.sync_step.specs.Step.{is_locked, offset_of}
+use Rattle.sync_step.specs.Step.{is_locked, offset_of, locked_offset}
 use Rattle.sync_history.specs.History.{acc_after, Eighth, LockOn, LockBy, LossBy, Premise, end_of}
 use Rattle.sync_tie.specs.Pushes.{Push, size_at}
 use Rattle.sync_tie.specs.Claims.{any_head, HeadAt}
 use Rattle.sync_tie.specs.Stretch.{LostByMarkers}
-use Rattle.sums.specs.Sums.{empty_sums}
+use Rattle.sums.specs.declared.Sums.{Sums}
 use Rattle.demap.specs.Answers.{demap_refusal, demap_buffer}
 use Rattle.receiver.specs.declared.Kept.{Kept}
 use Rattle.receiver.specs.Started.{started, new_kept}
@@ -125,10 +125,9 @@ module _ (h : History) (s : System) (c : Call) (t : Told) (rest : List Call) whe
     pub refusal : t.refusal ≡ refusal_in h c
     pub events : t.events ≡ events_in h c
     pub runs : t.runs ≡ runs_in h c
-    pub ended : t.ended ≡ is_open (ended_in h c)
-    pub frame : t.sums.frame ≡ frame_of (ended_in h c)
-    pub count : t.sums.count ≡ count_of (ended_in h c)
-    pub no_sums : t.ended ≡ false → t.sums ≡ empty_sums 0
+    pub ended : is_some t.sums ≡ is_open (ended_in h c)
+    pub frame : (u : Sums) → t.sums ≡ Some u → u.frame ≡ frame_of (ended_in h c)
+    pub count : (u : Sums) → t.sums ≡ Some u → u.count ≡ count_of (ended_in h c)
     -- the receiver's own are those of the stretch that runs after the call
     pub acc : Accumulated (happens h c).pushes t.acc
     pub lent : t.lent ≡ lent_back c t.acc
@@ -164,7 +163,7 @@ module _ (h : History) (s : System) (c : Call) (t : Told) (rest : List Call) whe
   pub record LockTold : Type 0 where
     pub locked : ends_stretch h c ≡ false → (p : ℕ) → LockBy 9296 (size_at ps) p (length ps) → (is_locked lock_after ≡ true) × (offset_of lock_after ≡ p)
     pub locked_only : ends_stretch h c ≡ false → is_locked lock_after ≡ true → LockBy 9296 (size_at ps) (offset_of lock_after) (length ps)
-    pub period : ends_stretch h c ≡ false → (q : SyncStats) → Among (IsPeriod q) t.events → (q.locked ≡ is_locked lock_after) × (q.offset ≡ offset_of lock_after)
+    pub period : ends_stretch h c ≡ false → (q : SyncStats) → Among (IsPeriod q) t.events → q.offset ≡ locked_offset lock_after
 
   -- "Whenever, in every period of 9,296 after the loss, the rotated symbols have correlation size at least P at one fixed position and at most Q at all
   -- others, P ≥ 4Q + 8"
@@ -212,7 +211,7 @@ module _ (h : History) (s : System) (c : Call) (t : Told) (rest : List Call) whe
 pub record Demand3 (at : ℕ) (step : ℤ) (store : List ℤ) (cs : List Call) : Type 0 where
   -- an accepted new receiver is one that begins there
   pub new : (acc : List ℕ) → length acc ≡ 9296 →
-      (new_answer at step acc ≡ record { refusal = 0; receiver = started at (new_kept step) }) × (new_acc acc ≡ replicate 9296 0)
+      (new_answer at step acc ≡ Ok (started at (new_kept step))) × (new_acc acc ≡ replicate 9296 0)
   -- every call of the list
   pub each : (before : List Call) (c : Call) (rest : List Call) → cs ≡ before ++ (c ∷ rest) →
       let h = happen_all (begins_with at (new_kept step)) before in
@@ -224,5 +223,5 @@ DemandClaim = (at : ℕ) (step : ℤ) (store : List ℤ) (cs : List Call) → le
 
 -- "soft bits of a single demap are meant too"
 abbrev pub SingleClaim : Type 0
-SingleClaim = (yi yq : ℤ) (points : List ℤ) (bits : ℕ) (k : ℤ) (out : List ℤ) → demap_refusal bits (length points) k (length out) ≡ 0 →
+SingleClaim = (yi yq : ℤ) (points : List ℤ) (bits : ℕ) (k : ℤ) (out : List ℤ) → demap_refusal bits (length points) k (length out) ≡ Ok tt →
     (j : ℕ) → j < bits → BitTrue bits points yi yq j (get_or (demap_buffer yi yq points bits k out) j (pos 0))

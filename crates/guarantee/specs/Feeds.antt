@@ -1,7 +1,7 @@
 -- A feed is its symbols: so demand 3 covers lists with feeds.
-use Rattle.std.specs.Prelude.{ℕ, zero, suc, ◌+◌, ◌≤◌, ◌<◌, false, ◌&&◌, List, [], ◌∷◌, ◌≡◌, eqb, leb, ℤ, length}
+use Rattle.std.specs.Prelude.{ℕ, zero, suc, ◌+◌, ◌≤◌, ◌<◌, ◌&&◌, List, [], ◌∷◌, ◌≡◌, eqb, leb, ℤ, length, None}
 use Rattle.laws.specs.Choice.{when◌then◌else◌}
-use Rattle.sums.specs.Sums.{empty_sums}
+use Rattle.refusal.specs.Refusals.{code_of}
 use Rattle.sync_corr.specs.Correlate.{ones_of}
 use Rattle.sync_step.specs.Events.{no_events}
 use Rattle.receiver.specs.Feed.{Block, Fed, any_event, feed_of, feed_refusal, input_at, symbols_of}
@@ -31,11 +31,10 @@ unfoldable pub told_feed : System → Feed → Told
 told_feed s d =
     let x = fed_by s d in
     record {
-      refusal = feed_refusal s.receiver d.block (lent_to s d.accumulators d.slots d.soft);
+      refusal = code_of (feed_refusal s.receiver d.block (lent_to s d.accumulators d.slots d.soft));
       events = x.events;
       runs = x.runs;
-      ended = false;
-      sums = empty_sums 0;
+      sums = None;
       soft = x.lent.soft;
       lent = x.lent.acc;
       acc = kept_acc s d.accumulators x.lent.acc;
@@ -48,8 +47,7 @@ told_nothing s d n =
       refusal = n;
       events = no_events;
       runs = no_runs;
-      ended = false;
-      sums = empty_sums 0;
+      sums = None;
       soft = d.soft;
       lent = handed_acc s d.accumulators;
       acc = s.acc;

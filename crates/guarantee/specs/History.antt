@@ -1,9 +1,9 @@
 -- What happened, from the calls alone: types of a receiver's state stand here, but no receiver's state. A history is that of the stretch that runs: since
 -- the new receiver, the last loss or the last accepted restart.
-use Rattle.std.specs.Prelude.{ℕ, zero, suc, ◌+◌, ◌-◌, ◌^◌, Bool, true, false, ◌&&◌, List, [], ◌∷◌, ◌++◌, eqb, leb, ltb, ℤ, length}
+use Rattle.sync_heads.specs.declared.FrameHead.{FrameHead}
+use Rattle.std.specs.Prelude.{ℕ, zero, suc, ◌+◌, ◌-◌, ◌^◌, Bool, true, false, ◌&&◌, List, [], ◌∷◌, ◌++◌, eqb, leb, ltb, ℤ, length, Option, Some}
 use Rattle.laws.specs.Choice.{when◌then◌else◌}
 use Rattle.sync_corr.specs.Correlate.{ones_of}
-use Rattle.sync_heads.specs.declared.Record.{Record}
 use Rattle.sync_step.specs.declared.Event.{Event}
 use Rattle.sync_step.specs.declared.Event.TheVariants.{Nothing, Head, Period, Lost}
 use Rattle.sync_step.specs.declared.Events.{Events}
@@ -14,8 +14,6 @@ use Rattle.sync_tie.specs.Claims.{any_head}
 use Rattle.carrier.specs.declared.Nco.{Nco}
 use Rattle.carrier.specs.Carrier.{started_nco, rotated_of, advanced_nco, heard_of}
 use Rattle.demap.specs.Answers.{bad_points, bad_scale}
-use Rattle.eq.specs.declared.TapsFrom.{TapsFrom}
-use Rattle.eq.specs.declared.TapsFrom.TheVariants.{Frame}
 use Rattle.receiver_slot.specs.declared.AlignedRun.{AlignedRun}
 use Rattle.receiver_slot.specs.declared.Points.{Points}
 use Rattle.receiver_slot.specs.declared.Runs.{Runs}
@@ -34,14 +32,14 @@ pub data Training : Type 0 where
 pub record History : Type 0 where
   -- the position of the stretch's first symbol, and the frame record kept from before
   pub base : ℕ
-  pub last : Record
+  pub last : Option FrameHead
   -- its accepted symbols, rotated by the carrier, each with the words that were lent with it
   pub pushes : List Push
   -- the carrier: phase and step, and the differences of Ssync heads so far
   pub carrier : Nco
   -- the taps last accepted, with their frame, or the identity; the points and k last accepted
   pub taps : List ℤ
-  pub from : TapsFrom
+  pub from : Option ℕ
   pub points : Points
   pub sums : Training
 
@@ -97,7 +95,7 @@ carrier_with h x = heard_events (advanced_nco h.carrier) (events_with h x)
 
 -- ---- trainings
 -- of m symbols of a stretch, those that told a head
-unfoldable pub told_to : ℕ → Record → List Push → ℕ → ℕ
+unfoldable pub told_to : ℕ → Option FrameHead → List Push → ℕ → ℕ
 told_to base last ps zero = 0
 told_to base last ps (suc m) = told_to base last ps m + (when any_head (tells 9296 base last ps m) then 1 else 0)
 
@@ -191,7 +189,7 @@ accepts h (symbol x a b soft) = takes h x
 accepts h (points bits ps k) =
     record { base = h.base; last = h.last; pushes = h.pushes; carrier = h.carrier; taps = h.taps; from = h.from; points = loaded_points bits ps k; sums = h.sums }
 accepts h (taps ts frame) =
-    record { base = h.base; last = h.last; pushes = h.pushes; carrier = h.carrier; taps = ts; from = Frame frame; points = h.points; sums = h.sums }
+    record { base = h.base; last = h.last; pushes = h.pushes; carrier = h.carrier; taps = ts; from = Some frame; points = h.points; sums = h.sums }
 accepts h (opens frame) =
     record { base = h.base; last = h.last; pushes = h.pushes; carrier = h.carrier; taps = h.taps; from = h.from; points = h.points; sums = since frame 0 }
 accepts h ends =

@@ -2,34 +2,30 @@
 // and its scale. The points stand in two lent slices of 124 i16, learned and nominal, each with the sets of 1 to 5 bits in turn.
 #![tactic(auto)]
 
-pub mod plain;
+mod plain;
 pub mod ranged;
 mod refusals;
 
-ghost use Rattle.std.specs.Prelude.{◌≡◌, length};
+ghost use Rattle.std.specs.Prelude.{◌≡◌};
 ghost use Rattle.in_force.specs.InForce.{default_force};
-ghost use Rattle.in_force.specs.Answers.{next_answer, next_slice, sets_refusal, points_in_force};
+ghost use Rattle.in_force.specs.Answers.{next_answer, next_slice, points_in_force, lent};
 
 use learn::Learn;
+use refusal::{Refusal, Refused};
 
-// The frame that was learned on.
-#[derive(Clone, Copy)]
-pub enum Source {
-    Never,
-    Frame(u32),
-}
-
+// learned: whether the set of so many bits has its own points. They stand in lent memory, since a rule of the project keeps no heap, so that a
+// flag says it and no Option holds them.
 #[derive(Clone, Copy)]
 pub struct InForce {
     pub learned: [bool; 5],
     pub n0: i64,
     pub k: i64,
-    pub from: Source,
+    pub from: Option<u32>,
 }
 
+// What is in force, and what was learned as it was handed in.
 #[derive(Clone, Copy)]
 pub struct Renewed {
-    pub refusal: u8,
     pub in_force: InForce,
     pub learn: Learn,
 }
@@ -42,48 +38,50 @@ pub fn default() -> InForce
         learned: [false; 5],
         n0: 52556,
         k: demap::ranged::scale(52556),
-        from: Source::Never,
+        from: None,
     }
 }
 
 // What a frame's pilots and noise give the next frame; its learned points go into the slice.
-pub fn next(f: InForce, l: Learn, frame: u32, learned: &mut [i16]) -> Renewed
+pub fn next(
+    f: InForce,
+    l: Learn,
+    frame: u32,
+    learned: &mut [i16],
+) -> Result<Renewed, Refused<Renewed>>
     ensures { (result ≡ next_answer f l frame learned.old) × (learned.new ≡ next_slice f l learned.old) }
 {
-    let n = refusals::next(f, l, learned.len());
-    if n == 0 {
-        Renewed {
-            refusal: 0,
+    match refusals::next(f, l, learned.len()) {
+        Ok(()) => Ok(Renewed {
             in_force: ranged::renewed(f, l, frame, learned),
             learn: l,
-        }
-    } else {
-        Renewed {
-            refusal: n,
-            in_force: f,
-            learn: l,
-        }
+        }),
+        Err(why) => Err(Refused {
+            why,
+            state: Renewed {
+                in_force: f,
+                learn: l,
+            },
+        }),
     }
 }
 
-// The points of a set: a part of one of the two slices, not copied. Where they are refused the part is empty.
-#[derive(Clone, Copy)]
-pub struct Chosen<'a> {
-    pub points: &'a [i16],
-    pub refusal: u8,
-}
-
+// The points of a set: a part of one of the two slices, not copied.
 pub fn points_in_force<'a>(
     learned: &'a [i16],
     nominal: &'a [i16],
     flags: [bool; 5],
     bits: usize,
-) -> Chosen<'a>
-    ensures { (result.points.now ≡ points_in_force learned.now nominal.now flags bits) × (result.refusal ≡ sets_refusal (length learned.now) (length nominal.now) bits) }
+) -> Result<&'a [i16], Refusal>
+    ensures { lent result ≡ points_in_force learned.now nominal.now flags bits }
 {
-    let p = plain::part(learned, nominal, flags, bits);
-    Chosen {
-        points: p,
-        refusal: plain::refusal(p),
+    refusals::sets(learned.len(), nominal.len(), bits)?;
+    let n = learn::ranged::labels(bits);
+    let s = 2 * (n - 2);
+    let e = s + 2 * n;
+    if flags[bits - 1] {
+        Ok(&learned[s..e])
+    } else {
+        Ok(&nominal[s..e])
     }
 }

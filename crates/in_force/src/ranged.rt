@@ -3,7 +3,7 @@ ghost use Rattle.std.specs.Prelude.{◌≡◌, ◌≤◌, ◌^◌, nat_abs, leng
 ghost use Rattle.learn.specs.Ranges.{LearnOk};
 ghost use Rattle.in_force.specs.InForce.{set_flags, slices_learned, noise_after, renewed_of};
 
-use crate::{InForce, Source};
+use crate::InForce;
 use learn::Learn;
 
 // Each learned set's points into their part of the slice, and which sets these are.
@@ -12,10 +12,8 @@ fn all_pointed(l: Learn, learned: &mut [i16]) -> [bool; 5]
     ensures { (result ≡ set_flags l) × (learned.new ≡ slices_learned l 5 learned.old) }
 {
     let mut flags = [false; 5];
-    let mut i: usize = 0;
-    while i < 5 {
-        flags[i] = learn::ranged::pointed(l, i + 1, learned);
-        i += 1;
+    for (i, flag) in flags.iter_mut().enumerate() {
+        *flag = learn::ranged::pointed(l, i + 1, learned);
     }
     flags
 }
@@ -38,11 +36,11 @@ pub(crate) fn renewed(f: InForce, l: Learn, frame: u32, learned: &mut [i16]) -> 
 {
     let n0 = noise_after(l, f.n0);
     let k = demap::ranged::scale(n0);
-    let flags = all_pointed(l, learned);
+    let learned = all_pointed(l, learned);
     InForce {
-        learned: flags,
-        n0: n0,
-        k: k,
-        from: Source::Frame(frame),
+        learned,
+        n0,
+        k,
+        from: Some(frame),
     }
 }

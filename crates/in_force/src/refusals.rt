@@ -1,20 +1,32 @@
-// Refusals, in the order of document 01's table.
+// Why a call is not taken, in the order of document 01's table.
 ghost use Rattle.std.specs.Prelude.{◌≡◌};
-ghost use Rattle.in_force.specs.Answers.{next_refusal};
+ghost use Rattle.in_force.specs.Answers.{next_refusal, sets_refusal};
 
 use crate::{InForce, plain};
 use learn::Learn;
+use refusal::Refusal;
 
-pub(crate) fn next(f: InForce, l: Learn, len: usize) -> u8
+pub(crate) fn next(f: InForce, l: Learn, len: usize) -> Result<(), Refusal>
     ensures { result ≡ next_refusal f l len }
 {
-    if len == 124 {
-        if plain::in_range(f) {
-            if learn::ranges::in_range(l) { 0 } else { 6 }
-        } else {
-            6
-        }
-    } else {
-        4
+    if len != 124 {
+        return Err(Refusal::Points);
     }
+    if !plain::in_range(f) {
+        return Err(Refusal::Arithmetic);
+    }
+    if !learn::ranges::in_range(l) {
+        return Err(Refusal::Arithmetic);
+    }
+    Ok(())
+}
+
+// Why there are no points of so many bits in slices of these lengths.
+pub(crate) fn sets(learned: usize, nominal: usize, bits: usize) -> Result<(), Refusal>
+    ensures { result ≡ sets_refusal learned nominal bits }
+{
+    if (learned != 124) | ((nominal != 124) | ((bits < 1) | (5 < bits))) {
+        return Err(Refusal::Points);
+    }
+    Ok(())
 }

@@ -7,3 +7,5 @@ pub mod Floor
 pub mod First
 pub mod Least
 pub mod Lists
+pub mod Made
+pub mod Taken

@@ -1,8 +1,9 @@
 -- Laws of the definitions of learn that its proofs cite: tests of many numbers, sets, and what is known where nothing refuses. Assumes nothing.
+use Rattle.std.specs.Prelude.{Ok}
 use mathlib.Core.Bool.{Bool, true, false, not, ◌&&◌, ◌||◌}
 use mathlib.Core.List.{List, ◌++◌}
 use mathlib.Core.Logic.{⊎_elim}
-use mathlib.Core.Path.{◌≡◌, refl, sym}
+use mathlib.Core.Path.{◌≡◌, refl, sym, ◌∙◌}
 use Prim.Native.Nat.{ℕ, zero, suc, ◌+◌, ◌-◌, ◌*◌, ◌^◌, ◌≤◌, ◌<◌}
 use native.Mathlib.Nat.{le_of_suc-le-suc, not-suc-le-zero, eq-or-lt_of_le, mod-lt}
 use native.Mathlib.Numerals.{add-one}
@@ -17,9 +18,11 @@ use lib.Signed.{le_z, lt_z}
 use mir.Facts.{to_z_pos}
 use mir.Syntax.{w64}
 use mir.Val.{to_z}
-use Rattle.laws.proofs.Tests.{never, and_both, neither}
-use Rattle.laws.specs.Choice.{when◌then◌else◌, if_yes, minus}
+use Rattle.laws.proofs.Taken.{ok_yes, ok_no}
+use Rattle.laws.proofs.Tests.{never, by_test, and_both, neither}
+use Rattle.laws.specs.Choice.{if_yes, minus}
 use Rattle.laws.specs.Ranges.{firsts}
+use Rattle.refusal.specs.declared.Refusal.TheVariants.{Points, Arithmetic, Counts}
 use Rattle.learn.specs.Answers.{bad_best, pilot_refusal, noise_refusal, points_refusal}
 use Rattle.learn.specs.Learning.{all_below, sum_at, count_at, all_piloted, set_learned, mean_at, set_means, learned_slice}
 use Rattle.learn.specs.Ranges.{sum_in_range, sums_in_range, counts_in_range, learn_in_range, SumsOk, LearnOk}
@@ -46,6 +49,11 @@ pub all_of : (p : ℕ → Bool) (n : ℕ) → ((l : ℕ) → l < n → p l ≡ t
 unfolding all_below
 all_of p zero h = refl
 all_of p (suc n) h = rw (all_of p n (λ l k. h l (omega arith)), h n (omega arith))
+
+-- an answer that is yes exactly where each number below n passes
+pub tested : (r : Bool) (p : ℕ → Bool) (n : ℕ) → (r ≡ true → (l : ℕ) → l < n → p l ≡ true) → (((l : ℕ) → l < n → p l ≡ true) → r ≡ true) → r ≡ all_below p n
+tested r p n f g =
+    by_test (all_below p n) (λ e. g (λ l h. all-at p n l e h) ∙ sym e) (λ e. by_test r (λ t. absurd (never (sym (all_of p n (f t)) ∙ e))) (λ t. t ∙ sym e))
 
 -- ---- sets
 -- the number of labels
@@ -110,20 +118,6 @@ learn_ok l e =
     }
 
 -- ---- no refusal: what is then known
-no : {X : Type 0} (n : ℕ) → suc n ≡ 0 → X
-no n e = absurd (omega (arith, e))
-
--- a choice of numbers that is 0, where one of them is above 0
-pub yes_0 : (t : Bool) (a n : ℕ) → (when t then a else suc n) ≡ 0 → (t ≡ true) × (a ≡ 0)
-unfolding when◌then◌else◌
-yes_0 true a n e = (refl, e)
-yes_0 false a n e = no n e
-
-pub no_0 : (t : Bool) (n b : ℕ) → (when t then suc n else b) ≡ 0 → (t ≡ false) × (b ≡ 0)
-unfolding when◌then◌else◌
-no_0 true n b e = no n e
-no_0 false n b e = (refl, e)
-
 pub not_false : (t : Bool) → not t ≡ false → t ≡ true
 not_false true e = refl
 not_false false e = absurd (never e)
@@ -148,18 +142,18 @@ pub record PilotTaken (l : Learn) (bits t : ℕ) : Type 0 where
   pub in_range : learn_in_range l ≡ true
   pub room : count_at l.count (place_of bits t) < 67108864
 
-pub pilot_taken : (l : Learn) (bits t : ℕ) → pilot_refusal l bits t ≡ 0 → PilotTaken l bits t
+pub pilot_taken : (l : Learn) (bits t : ℕ) → pilot_refusal l bits t ≡ Ok tt → PilotTaken l bits t
 unfolding pilot_refusal
 pilot_taken l bits t e =
-    let p = no_0 (bad_bits bits) 3 _ e in
-    let q = yes_0 (learn_in_range l) _ 5 p.1 in
-    let r = no_0 (ltb 31 t) 5 _ q.1 in
+    let p = ok_no (bad_bits bits) Points _ e in
+    let q = ok_yes (learn_in_range l) _ Arithmetic p.1 in
+    let r = ok_no (ltb 31 t) Arithmetic _ q.1 in
     let c = count_at l.count (place_of bits t) in
     record {
       bits_ok = good-bits bits p.0;
       learn_ok = learn_ok l q.0;
       in_range = q.0;
-      room = leb-false 67108864 c (no_0 (leb 67108864 c) 7 0 r.1).0;
+      room = leb-false 67108864 c (ok_no (leb 67108864 c) Counts _ r.1).0;
     }
 
 pub record NoiseTaken (l : Learn) (best : ℤ) : Type 0 where
@@ -168,15 +162,15 @@ pub record NoiseTaken (l : Learn) (best : ℤ) : Type 0 where
   pub room : l.samples < 67108864
   pub best_ok : nat_abs best ≤ 2 ^ 33
 
-pub noise_taken : (l : Learn) (best : ℤ) → noise_refusal l best ≡ 0 → NoiseTaken l best
+pub noise_taken : (l : Learn) (best : ℤ) → noise_refusal l best ≡ Ok tt → NoiseTaken l best
 unfolding noise_refusal
 noise_taken l best e =
-    let p = yes_0 (learn_in_range l) _ 5 e in
-    let q = no_0 (bad_best best) 5 _ p.1 in
+    let p = ok_yes (learn_in_range l) _ Arithmetic e in
+    let q = ok_no (bad_best best) Arithmetic _ p.1 in
     record {
       learn_ok = learn_ok l p.0;
       in_range = p.0;
-      room = leb-false 67108864 l.samples (no_0 (leb 67108864 l.samples) 7 0 q.1).0;
+      room = leb-false 67108864 l.samples (ok_no (leb 67108864 l.samples) Counts _ q.1).0;
       best_ok = good_best best q.0;
     }
 
@@ -185,13 +179,13 @@ pub record PointsTaken (l : Learn) (bits len : ℕ) : Type 0 where
   pub bits_ok : Bits bits
   pub learn_ok : LearnOk l
 
-pub points_taken : (l : Learn) (bits len : ℕ) → points_refusal l bits len ≡ 0 → PointsTaken l bits len
+pub points_taken : (l : Learn) (bits len : ℕ) → points_refusal l bits len ≡ Ok tt → PointsTaken l bits len
 unfolding points_refusal
 points_taken l bits len e =
-    let p = no_0 (not (eqb len 124) || bad_bits bits) 3 _ e in
+    let p = ok_no (not (eqb len 124) || bad_bits bits) Points _ e in
     let q = neither (not (eqb len 124)) (bad_bits bits) p.0 in
     record {
       long = eqb-true len 124 (not_false (eqb len 124) q.0);
       bits_ok = good-bits bits q.1;
-      learn_ok = learn_ok l (yes_0 (learn_in_range l) 0 5 p.1).0;
+      learn_ok = learn_ok l (ok_yes (learn_in_range l) _ Arithmetic p.1).0;
     }

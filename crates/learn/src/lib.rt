@@ -11,6 +11,8 @@ ghost use Rattle.std.specs.Prelude.{◌≡◌};
 ghost use Rattle.learn.specs.Learning.{new_learn};
 ghost use Rattle.learn.specs.Answers.{pilot_answer, noise_answer, points_answer, points_slice, figure_answer};
 
+use refusal::{Refusal, Refused};
+
 // Two sums and a count to a label; the sum and the number of the noise samples.
 #[derive(Clone, Copy)]
 pub struct Learn {
@@ -20,33 +22,19 @@ pub struct Learn {
     pub samples: u32,
 }
 
-#[derive(Clone, Copy)]
-pub struct Learned {
-    pub refusal: u8,
-    pub learn: Learn,
-}
-
-// learned: the set's points are in the slice.
+// What was learned as it was handed in, and whether the set's points are in the slice: they stand in lent memory, since a rule of the project
+// keeps no heap, so that a flag says it and no Option holds them.
 #[derive(Clone, Copy)]
 pub struct Pointed {
-    pub refusal: u8,
     pub learn: Learn,
     pub learned: bool,
-}
-
-// The noise figure, if there is a sample.
-#[derive(Clone, Copy)]
-pub enum Figure {
-    Value(i64),
-    None,
 }
 
 // The figure, and what was learned as it was handed in.
 #[derive(Clone, Copy)]
 pub struct Figured {
-    pub refusal: u8,
     pub learn: Learn,
-    pub figure: Figure,
+    pub figure: Option<i64>,
 }
 
 pub fn new() -> Learn
@@ -61,83 +49,51 @@ pub fn new() -> Learn
 }
 
 // Pilot t of a slot of so many bits, its sign removed.
-pub fn pilot(l: Learn, bits: usize, t: usize, zi: i16, zq: i16) -> Learned
+pub fn pilot(l: Learn, bits: usize, t: usize, zi: i16, zq: i16) -> Result<Learn, Refused<Learn>>
     ensures { result ≡ pilot_answer l bits t zi zq }
 {
-    let n = refusals::pilot(l, bits, t);
-    if n == 0 {
-        Learned {
-            refusal: 0,
-            learn: ranged::piloted(l, ranged::place(bits, t), zi, zq),
-        }
-    } else {
-        Learned {
-            refusal: n,
-            learn: l,
-        }
+    match refusals::pilot(l, bits, t) {
+        Ok(()) => Ok(ranged::piloted(l, ranged::place(bits, t), zi, zq)),
+        Err(why) => Err(Refused { why, state: l }),
     }
 }
 
 // A noise sample: a symbol with its least metric.
-pub fn noise(l: Learn, yi: i16, yq: i16, best: i64) -> Learned
+pub fn noise(l: Learn, yi: i16, yq: i16, best: i64) -> Result<Learn, Refused<Learn>>
     ensures { result ≡ noise_answer l yi yq best }
 {
-    let n = refusals::noise(l, best);
-    if n == 0 {
-        Learned {
-            refusal: 0,
-            learn: ranged::sampled(l, yi, yq, best),
-        }
-    } else {
-        Learned {
-            refusal: n,
-            learn: l,
-        }
+    match refusals::noise(l, best) {
+        Ok(()) => Ok(ranged::sampled(l, yi, yq, best)),
+        Err(why) => Err(Refused { why, state: l }),
     }
 }
 
 // The learned points of a set into its part of the slice, if every label has a pilot.
-pub fn points(l: Learn, bits: usize, learned: &mut [i16]) -> Pointed
+pub fn points(l: Learn, bits: usize, learned: &mut [i16]) -> Result<Pointed, Refused<Learn>>
     ensures { (result ≡ points_answer l bits learned.old) × (learned.new ≡ points_slice l bits learned.old) }
 {
-    let n = refusals::points(l, bits, learned.len());
-    if n == 0 {
-        Pointed {
-            refusal: 0,
+    match refusals::points(l, bits, learned.len()) {
+        Ok(()) => Ok(Pointed {
             learn: l,
             learned: ranged::pointed(l, bits, learned),
-        }
-    } else {
-        Pointed {
-            refusal: n,
-            learn: l,
-            learned: false,
-        }
+        }),
+        Err(why) => Err(Refused { why, state: l }),
     }
 }
 
-pub fn n0(l: Learn) -> Figured
+pub fn n0(l: Learn) -> Result<Figured, Refused<Learn>>
     ensures { result ≡ figure_answer l }
 {
-    if ranges::in_range(l) {
-        if l.samples == 0 {
-            Figured {
-                refusal: 0,
-                learn: l,
-                figure: Figure::None,
-            }
-        } else {
-            Figured {
-                refusal: 0,
-                learn: l,
-                figure: Figure::Value(ranged::mean_noise(l)),
-            }
-        }
-    } else {
-        Figured {
-            refusal: 6,
-            learn: l,
-            figure: Figure::None,
-        }
+    if !ranges::in_range(l) {
+        return Err(Refused {
+            why: Refusal::Arithmetic,
+            state: l,
+        });
     }
+    let figure = if l.samples == 0 {
+        None
+    } else {
+        Some(ranged::mean_noise(l))
+    };
+    Ok(Figured { learn: l, figure })
 }

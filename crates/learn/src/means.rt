@@ -17,13 +17,7 @@ pub(crate) fn all_piloted(count: &[u32; 62], a: usize, n: usize) -> bool
     requires { a + n ≤ 62 }
     ensures { result ≡ all_piloted count.now a n }
 {
-    let mut i: usize = 0;
-    let mut all = true;
-    while i < n {
-        all = all & (0 < count[a + i]);
-        i += 1;
-    }
-    all
+    count[a..a + n].iter().all(|&c| 0 < c)
 }
 
 // The means from number s on, as many as out holds.
@@ -31,11 +25,8 @@ pub(crate) fn write(sum: &[i64; 124], count: &[u32; 62], s: usize, out: &mut [i1
     requires { (s + length out.old ≤ 124) × (SumsOk sum.now) × ((i : ℕ) → i < length out.old → 0 < get_or count.now ((s + i) / 2) 0) }
     ensures { out.new ≡ firsts (λ (i : ℕ). mean_at sum.now count.now (s + i)) (length out.old) }
 {
-    let n = out.len();
-    let mut i: usize = 0;
-    while i < n {
+    for (i, x) in out.iter_mut().enumerate() {
         let j = s + i;
-        out[i] = mean(sum[j], count[j / 2]);
-        i += 1;
+        *x = mean(sum[j], count[j / 2]);
     }
 }

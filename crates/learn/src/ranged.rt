@@ -24,25 +24,16 @@ pub(crate) fn place(bits: usize, t: usize) -> usize
 }
 
 // One more pilot of the label at place a.
-pub(crate) fn piloted(l: Learn, a: usize, zi: i16, zq: i16) -> Learn
+pub(crate) fn piloted(mut l: Learn, a: usize, zi: i16, zq: i16) -> Learn
     requires { (LearnOk l) × (a < 62) × (get_or l.count a 0 < 67108864) }
     ensures { result ≡ piloted_at l a zi zq }
 {
-    let mut sum = l.sum;
-    let mut count = l.count;
     let i = 2 * a;
     let q = i + 1;
-    let si = sum[i] + (zi as i64);
-    let sq = sum[q] + (zq as i64);
-    sum[i] = si;
-    sum[q] = sq;
-    count[a] = count[a] + 1;
-    Learn {
-        sum: sum,
-        count: count,
-        noise: l.noise,
-        samples: l.samples,
-    }
+    l.sum[i] += zi as i64;
+    l.sum[q] += zq as i64;
+    l.count[a] += 1;
+    l
 }
 
 fn sample(yi: i16, yq: i16, best: i64) -> i64
@@ -58,13 +49,10 @@ pub(crate) fn sampled(l: Learn, yi: i16, yq: i16, best: i64) -> Learn
     requires { (LearnOk l) × (l.samples < 67108864) × (nat_abs best ≤ 2 ^ 33) }
     ensures { result ≡ sampled_by l yi yq best }
 {
-    let sum = l.sum;
-    let count = l.count;
     Learn {
-        sum: sum,
-        count: count,
         noise: l.noise + sample(yi, yq, best),
         samples: l.samples + 1,
+        ..l
     }
 }
 
@@ -73,14 +61,12 @@ pub fn pointed(l: Learn, bits: usize, learned: &mut [i16]) -> bool
     requires { (LearnOk l) × (Bits bits) × (length learned.old ≡ 124) }
     ensures { (result ≡ set_learned l bits) × (learned.new ≡ learned_slice l bits learned.old) }
 {
-    let sum = l.sum;
-    let count = l.count;
     let n = labels(bits);
     let a = n - 2;
-    if means::all_piloted(&count, a, n) {
+    if means::all_piloted(&l.count, a, n) {
         let s = 2 * a;
         let e = s + 2 * n;
-        means::write(&sum, &count, s, &mut learned[s..e]);
+        means::write(&l.sum, &l.count, s, &mut learned[s..e]);
         true
     } else {
         false

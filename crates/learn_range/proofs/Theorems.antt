@@ -1,5 +1,6 @@
 -- What calls learn, what the learned points are, and which points are in force. Each statement stands above its proof; the parts that are long
 -- are in Kept and Parts. The number of bits is left open throughout. Assumes nothing.
+use Rattle.std.specs.Prelude.{None, Some, Result, Ok, Err, IsOkAnd, ⊤}
 use mathlib.Core.Bool.{Bool, true, false, not, ◌&&◌, ◌||◌}
 use mathlib.Core.List.{List, [], ◌∷◌, append-nil}
 use mathlib.Core.Logic.{inl, inr}
@@ -7,7 +8,7 @@ use mathlib.Core.Path.{◌≡◌, refl, sym, ap, ◌∙◌}
 use Prim.Native.Nat.{ℕ, suc, ◌+◌, ◌-◌, ◌*◌, ◌/◌, ◌^◌, ◌≤◌, ◌<◌}
 use native.Mathlib.Nat.{pow-suc}
 use native.Mathlib.Omega.{arith}
-use borrow.Author.Tests.{ltb-true, lt-ltb, le-ltb, eq-eqb, ne_eqb, eqb-true, eqb-false}
+use borrow.Author.Tests.{ltb-true, lt-ltb, le-ltb, eq-eqb, eqb-false}
 use lib.Dec.{T, eqb, leb, ltb}
 use lib.IntN.{ℤ, pos, nat_abs, ◌+ℤ◌}
 use lib.ListN.{length, get_or}
@@ -20,26 +21,28 @@ use Rattle.laws.specs.Choice.{when◌then◌else◌, if_yes, if_no, minus}
 use Rattle.laws.specs.Ranges.{firsts}
 use Rattle.fx.proofs.Theorems.{Saturates, sat16_theorem}
 use Rattle.fx.specs.Fx.{div_round, sat16_of}
+use Rattle.refusal.proofs.Answered.{answered_either, answered_both}
+use Rattle.refusal.specs.Refusals.{code_of, answered, written, state_after}
+use Rattle.refusal.specs.declared.Refusal.{Refusal}
+use Rattle.refusal.specs.declared.Refusal.TheVariants.{Points, Arithmetic, Counts}
+use Rattle.refusal.specs.declared.Refused.{Refused}
 use Rattle.demap.proofs.Blocks.{part_long}
 use Rattle.demap.proofs.Theorems.{scale_theorem}
 use Rattle.demap.specs.Demap.{scale_of}
 use Rattle.learn.proofs.Between.{mean_low, mean_high}
 use Rattle.learn.proofs.Laws.{labels_few, place_below, piloted_at_lem, all_of, pilot_taken, noise_taken, points_taken}
 use Rattle.learn.specs.Answers.{bad_best, pilot_refusal, pilot_answer, noise_refusal, noise_answer, points_refusal, points_answer, points_slice, figured, figure_answer}
-use Rattle.learn.specs.Learning.{sum_at, count_at, new_learn, piloted_at, all_piloted, set_learned, mean_of, mean_at, set_means, learned_slice, mean_noise}
+use Rattle.learn.specs.Learning.{sum_at, count_at, new_learn, all_piloted, set_learned, mean_of, mean_at, set_means, learned_slice, mean_noise}
 use Rattle.learn.specs.Ranges.{learn_in_range}
 use Rattle.learn.specs.Sets.{Bits, bad_bits, place_of, first_place, set_start, set_size, set_of}
 use Rattle.learn.specs.declared.Figured.{Figured}
-use Rattle.learn.specs.declared.Figure.TheVariants.{Value, None}
 use Rattle.learn.specs.declared.Learn.{Learn}
-use Rattle.learn.specs.declared.Learned.{Learned}
-use Rattle.learn.specs.declared.Pointed.{Pointed}
 use Rattle.in_force.proofs.Laws.{next_taken, sets_taken}
 use Rattle.in_force.specs.Answers.{next_refusal, next_answer, next_slice, sets_refusal, points_in_force}
 use Rattle.in_force.specs.InForce.{default_force, set_flags, slices_learned, noise_after, renewed_of, force_in_range}
 use Rattle.in_force.specs.declared.InForce.{InForce}
 use Rattle.in_force.specs.declared.Renewed.{Renewed}
-use Rattle.learn_range.specs.Calls.{Call, learn_of, learn_after, CallFits, CallsFit, Sound, CallsKeep, Next, force_after, AllCoherent, FramesKeep}
+use Rattle.learn_range.specs.Calls.{Call, learn_of, learn_after, CallFits, CallsFit, Sound, CallsKeep, RefusedFor, Next, force_after, AllCoherent, FramesKeep}
 use Rattle.learn_range.specs.Calls.{pilot, noise}
 use Rattle.learn_range.specs.Coherent.{From, Part, Coherent}
 use Rattle.learn_range.proofs.Kept.{passes, new_coherent, piloted-coherent, sampled_coherent, coherent_in_range, sum_first, sum-second, sum-other, count-here, count-other}
@@ -56,58 +59,74 @@ starts_theorem = (refl, refl, refl, refl, refl)
 pub answer_coherent : (l : Learn) (c : Call) → Coherent l → CallFits c → Coherent (learn_of l c)
 unfolding learn_of pilot_answer noise_answer
 answer_coherent l (pilot bits t zi zq) c f =
-    if_either (λ (x : Learned). Coherent x.learn) (eqb (pilot_refusal l bits t) 0) _ _
-    (λ e.
-    let k = pilot_taken l bits t (eqb-true (pilot_refusal l bits t) 0 e) in
-    piloted-coherent l (place_of bits t) zi zq c (place_below bits t k.bits_ok) k.room f.0 f.1)
-    (λ e. c)
+    answered_either (λ r. Coherent (state_after r)) (pilot_refusal l bits t) l _
+    (λ e. let k = pilot_taken l bits t e in piloted-coherent l (place_of bits t) zi zq c (place_below bits t k.bits_ok) k.room f.0 f.1)
+    (λ why e. c)
 answer_coherent l (noise yi yq best) c f =
-    if_either (λ (x : Learned). Coherent x.learn) (eqb (noise_refusal l best) 0) _ _
-    (λ e. let k = noise_taken l best (eqb-true (noise_refusal l best) 0 e) in sampled_coherent l yi yq best c k.room f.0 f.1 k.best_ok)
-    (λ e. c)
+    answered_either (λ r. Coherent (state_after r)) (noise_refusal l best) l _
+    (λ e. let k = noise_taken l best e in sampled_coherent l yi yq best c k.room f.0 f.1 k.best_ok)
+    (λ why e. c)
 
 pub answers_coherent : (l : Learn) (cs : List Call) → Coherent l → CallsFit cs → Coherent (learn_after l cs)
 unfolding learn_after
 answers_coherent l [] c f = c
 answers_coherent l (a ∷ cs) c f = answers_coherent (learn_of l a) cs (answer_coherent l a c f.0) f.1
 
+-- what refuses with this is its test, and neither an accepted one nor another refusal is it
+by_its_test : {T S : Type 0} (r : Result ⊤ Refusal) (s : S) (a : T) → RefusedFor (answered r s a) Arithmetic → r ≡ Err Arithmetic
+by_its_test (Ok x) s a h = absurd h
+by_its_test (Err why) s a h = ap (λ (x : Refusal). Err x) h
+
+six : (r : Result ⊤ Refusal) → r ≡ Err Arithmetic → code_of r ≡ 6
+six r e = ap (λ (x : Result ⊤ Refusal). code_of x) e
+
+not_taken : ◌≡◌ {A = Result ⊤ Refusal} (Ok tt) (Err Arithmetic) → ⊥
+not_taken e = let n : ◌≡◌ {A = ℕ} 0 6 = six (Ok tt) e in omega (arith, n)
+
+not_points : ◌≡◌ {A = Result ⊤ Refusal} (Err Points) (Err Arithmetic) → ⊥
+not_points e = let n : ◌≡◌ {A = ℕ} 4 6 = six (Err Points) e in omega (arith, n)
+
+not_counts : ◌≡◌ {A = Result ⊤ Refusal} (Err Counts) (Err Arithmetic) → ⊥
+not_counts e = let n : ◌≡◌ {A = ℕ} 8 6 = six (Err Counts) e in omega (arith, n)
+
 -- in range, 6 comes of the arguments alone
-pilot_6 : (l : Learn) (bits t : ℕ) → learn_in_range l ≡ true → pilot_refusal l bits t ≡ 6 → 31 < t
+pilot_6 : (l : Learn) (bits t : ℕ) → learn_in_range l ≡ true → pilot_refusal l bits t ≡ Err Arithmetic → 31 < t
 unfolding pilot_refusal
 pilot_6 l bits t e =
-    let P : ℕ → Type 0 = λ (x : ℕ). x ≡ 6 → 31 < t in
-    if_both P (bad_bits bits) 4 _ (λ z. omega arith)
-    (if_either P (learn_in_range l) _ 6
-    (λ q. if_either P (ltb 31 t) 6 _ (λ r z. ltb-true 31 t r) (λ r. if_both P (leb 67108864 (count_at l.count (place_of bits t))) 8 0 (λ z. omega arith) (λ z. omega arith)))
+    let P : Result ⊤ Refusal → Type 0 = λ x. x ≡ Err Arithmetic → 31 < t in
+    if_both P (bad_bits bits) (Err Points) _ (λ z. absurd (not_points z))
+    (if_either P (learn_in_range l) _ (Err Arithmetic)
+    (λ q.
+    if_either P (ltb 31 t) (Err Arithmetic) _ (λ r z. ltb-true 31 t r)
+    (λ r. if_both P (leb 67108864 (count_at l.count (place_of bits t))) (Err Counts) (Ok tt) (λ z. absurd (not_counts z)) (λ z. absurd (not_taken z))))
     (λ q. absurd (never (sym e ∙ q))))
 
-noise_6 : (l : Learn) (best : ℤ) → learn_in_range l ≡ true → noise_refusal l best ≡ 6 → bad_best best ≡ true
+noise_6 : (l : Learn) (best : ℤ) → learn_in_range l ≡ true → noise_refusal l best ≡ Err Arithmetic → bad_best best ≡ true
 unfolding noise_refusal
 noise_6 l best e =
-    let P : ℕ → Type 0 = λ (x : ℕ). x ≡ 6 → bad_best best ≡ true in
-    if_either P (learn_in_range l) _ 6
-    (λ q. if_either P (bad_best best) 6 _ (λ r z. r) (λ r. if_both P (leb 67108864 l.samples) 8 0 (λ z. absurd (eight z)) (λ z. absurd (zero z))))
+    let P : Result ⊤ Refusal → Type 0 = λ x. x ≡ Err Arithmetic → bad_best best ≡ true in
+    if_either P (learn_in_range l) _ (Err Arithmetic)
+    (λ q.
+    if_either P (bad_best best) (Err Arithmetic) _ (λ r z. r)
+    (λ r. if_both P (leb 67108864 l.samples) (Err Counts) (Ok tt) (λ z. absurd (not_counts z)) (λ z. absurd (not_taken z))))
     (λ q. absurd (never (sym e ∙ q)))
-  where
-    eight : ◌≡◌ {A = ℕ} 8 6 → ⊥
-    eight z = omega arith
 
-    zero : ◌≡◌ {A = ℕ} 0 6 → ⊥
-    zero z = omega arith
-
-points_6 : (l : Learn) (bits len : ℕ) → learn_in_range l ≡ true → points_refusal l bits len ≡ 6 → ⊥
+points_6 : (l : Learn) (bits len : ℕ) → learn_in_range l ≡ true → points_refusal l bits len ≡ Err Arithmetic → ⊥
 unfolding points_refusal
 points_6 l bits len e =
-    let P : ℕ → Type 0 = λ (x : ℕ). x ≡ 6 → ⊥ in
-    if_both P (not (eqb len 124) || bad_bits bits) 4 _ (λ z. omega arith) (if_either P (learn_in_range l) 0 6 (λ q z. omega arith) (λ q. absurd (never (sym e ∙ q))))
+    let P : Result ⊤ Refusal → Type 0 = λ x. x ≡ Err Arithmetic → ⊥ in
+    if_both P (not (eqb len 124) || bad_bits bits) (Err Points) _ not_points
+    (if_either P (learn_in_range l) (Ok tt) (Err Arithmetic) (λ q. not_taken) (λ q. absurd (never (sym e ∙ q))))
 
 -- the noise figure that is answered: the mean, if there is a sample
-pub figure_theorem : (l : Learn) → Coherent l → figure_answer l ≡ (when eqb l.samples 0 then figured 0 l None else figured 0 l (Value (mean_noise l)))
+pub figure_theorem : (l : Learn) → Coherent l → figure_answer l ≡ (when eqb l.samples 0 then figured l None else figured l (Some (mean_noise l)))
 unfolding figure_answer
 figure_theorem l c = if_yes (learn_in_range l) _ _ (coherent_in_range l c)
 
-figure_taken : (l : Learn) → Coherent l → (figure_answer l).refusal ≡ 0
-figure_taken l c = rw (figure_theorem l c) (if_both (λ (x : Figured). x.refusal ≡ 0) (eqb l.samples 0) (figured 0 l None) (figured 0 l (Value (mean_noise l))) refl refl)
+figure_6 : (l : Learn) → Coherent l → RefusedFor (figure_answer l) Arithmetic → ⊥
+figure_6 l c =
+    rw (figure_theorem l c)
+    (if_both (λ (x : Result Figured (Refused Learn)). RefusedFor x Arithmetic → ⊥) (eqb l.samples 0) (figured l None) (figured l (Some (mean_noise l))) (λ z. z) (λ z. z))
 
 pub sound : (l : Learn) → Coherent l → Sound l
 unfolding pilot_answer noise_answer points_answer
@@ -116,14 +135,11 @@ sound l c =
     record {
       coherent = c;
       in_range = e;
-      pilots = λ bits t zi zq. if_both (λ (x : Learned). x.refusal ≡ 6 → 31 < t) _ _ _ (λ z. omega arith) (pilot_6 l bits t e);
-      noises = λ yi yq best. if_both (λ (x : Learned). x.refusal ≡ 6 → bad_best best ≡ true) _ _ _ (λ z. absurd (taken z)) (noise_6 l best e);
-      points = λ bits learned. if_both (λ (x : Pointed). x.refusal ≡ 6 → ⊥) _ _ _ (λ z. omega arith) (points_6 l bits (length learned) e);
-      figure = λ z. omega (arith, figure_taken l c, z);
+      pilots = λ bits t zi zq h. pilot_6 l bits t e (by_its_test (pilot_refusal l bits t) l _ h);
+      noises = λ yi yq best h. noise_6 l best e (by_its_test (noise_refusal l best) l _ h);
+      points = λ bits learned h. points_6 l bits (length learned) e (by_its_test (points_refusal l bits (length learned)) l _ h);
+      figure = figure_6 l c;
     }
-  where
-    taken : ◌≡◌ {A = ℕ} 0 6 → ⊥
-    taken z = omega arith
 
 -- ---- CALLS: whatever is learned by calls from `new` on is coherent and in range, and no call finds a number of it out of range
 pub calls_keep : CallsKeep
@@ -137,13 +153,13 @@ pub record Added (l m : Learn) (a : ℕ) (zi zq : ℤ) : Type 0 where
   pub other_sums : (i : ℕ) → (i / 2 ≡ a → ⊥) → sum_at m.sum i ≡ sum_at l.sum i
   pub other_counts : (b : ℕ) → (b ≡ a → ⊥) → count_at m.count b ≡ count_at l.count b
 
-pub pilot_theorem : (l : Learn) (bits t : ℕ) (zi zq : ℤ) → Coherent l → pilot_refusal l bits t ≡ 0 →
-    Added l (pilot_answer l bits t zi zq).learn (place_of bits t) zi zq
+pub pilot_theorem : (l : Learn) (bits t : ℕ) (zi zq : ℤ) → Coherent l → pilot_refusal l bits t ≡ Ok tt →
+    Added l (state_after (pilot_answer l bits t zi zq)) (place_of bits t) zi zq
 unfolding pilot_answer
 pilot_theorem l bits t zi zq c e =
     let h = place_below bits t (pilot_taken l bits t e).bits_ok in
     let a = place_of bits t in
-    rw (ap (λ (x : Learned). x.learn) (if_yes (eqb (pilot_refusal l bits t) 0) (record { refusal = 0; learn = piloted_at l a zi zq }) (record { refusal = pilot_refusal l bits t; learn = l }) (eq-eqb (pilot_refusal l bits t) 0 e)))
+    rw e
     (record {
       first = sum_first l a zi zq c h;
       second = sum-second l a zi zq c h;
@@ -206,12 +222,12 @@ pub record Put (s n : ℕ) (f : ℕ → ℤ) (before after : List ℤ) : Type 0 
   pub below : (j : ℕ) → j < s → get_or after j (pos 0) ≡ get_or before j (pos 0)
   pub above : (j : ℕ) → s + n ≤ j → get_or after j (pos 0) ≡ get_or before j (pos 0)
 
-pub points_theorem : (l : Learn) (bits : ℕ) (learned : List ℤ) → points_refusal l bits (length learned) ≡ 0 → set_learned l bits ≡ true →
+pub points_theorem : (l : Learn) (bits : ℕ) (learned : List ℤ) → points_refusal l bits (length learned) ≡ Ok tt → set_learned l bits ≡ true →
     Put (set_start bits) (set_size bits) (mean_at l.sum l.count) learned (points_slice l bits learned)
 unfolding points_slice
 points_theorem l bits learned e t =
     let k = points_taken l bits (length learned) e in
-    rw (if_yes (eqb (points_refusal l bits (length learned)) 0) (learned_slice l bits learned) learned (eq-eqb (points_refusal l bits (length learned)) 0 e))
+    rw e
     (record {
       long = learned-long l bits learned k.bits_ok k.long ∙ sym k.long;
       inside = learned-here l bits learned k.bits_ok k.long t;
@@ -223,7 +239,11 @@ points_theorem l bits learned e t =
 pub points_kept : (l : Learn) (bits : ℕ) (learned : List ℤ) → set_learned l bits ≡ false → points_slice l bits learned ≡ learned
 unfolding points_slice learned_slice
 points_kept l bits learned t =
-    if_both (λ (xs : List ℤ). xs ≡ learned) (eqb (points_refusal l bits (length learned)) 0) _ learned (if_no (set_learned l bits) _ learned t) refl
+    kept (points_refusal l bits (length learned)) learned (learned_slice l bits learned) (if_no (set_learned l bits) _ learned t)
+  where
+    kept : (r : Result ⊤ Refusal) (xs ys : List ℤ) → ys ≡ xs → written r xs ys ≡ xs
+    kept (Ok x) xs ys h = h
+    kept (Err why) xs ys h = refl
 
 -- .. and number i of a learned set, of a `Learn` that came from calls, is the rounded mean of its label's pilots
 pub set_theorem : (l : Learn) (bits : ℕ) → Coherent l → Bits bits → set_learned l bits ≡ true → (i : ℕ) → i < set_size bits →
@@ -294,29 +314,32 @@ renewed_in_range f l frame e c =
     above n h = omega arith
 
 pub next_in_range : (f : InForce) (l : Learn) (frame : ℕ) (slice : List ℤ) → force_in_range f ≡ true → Coherent l →
-    force_in_range (next_answer f l frame slice).in_force ≡ true
+    force_in_range (state_after (next_answer f l frame slice)).in_force ≡ true
 unfolding next_answer
-next_in_range f l frame slice e c = if_both (λ (x : Renewed). force_in_range x.in_force ≡ true) _ _ _ (renewed_in_range f l frame e c) e
+next_in_range f l frame slice e c =
+    answered_both (λ (r : Result Renewed (Refused Renewed)). force_in_range (state_after r).in_force ≡ true) (next_refusal f l (length slice)) _ _ (renewed_in_range f l frame e c) (λ why. e)
 
-next_6 : (f : InForce) (l : Learn) (len : ℕ) → force_in_range f ≡ true → learn_in_range l ≡ true → next_refusal f l len ≡ 6 → ⊥
+next_6 : (f : InForce) (l : Learn) (len : ℕ) → force_in_range f ≡ true → learn_in_range l ≡ true → next_refusal f l len ≡ Err Arithmetic → ⊥
 unfolding next_refusal
 next_6 f l len e c =
-    let P : ℕ → Type 0 = λ (x : ℕ). x ≡ 6 → ⊥ in
-    if_both P (eqb len 124) _ 4
-    (if_either P (force_in_range f) _ 6 (λ q. if_either P (learn_in_range l) 0 6 (λ r z. omega arith) (λ r. absurd (never (sym c ∙ r)))) (λ q. absurd (never (sym e ∙ q))))
-    (λ z. omega arith)
+    let P : Result ⊤ Refusal → Type 0 = λ x. x ≡ Err Arithmetic → ⊥ in
+    if_both P (eqb len 124) _ (Err Points)
+    (if_either P (force_in_range f) _ (Err Arithmetic)
+    (λ q. if_either P (learn_in_range l) (Ok tt) (Err Arithmetic) (λ r. not_taken) (λ r. absurd (never (sym c ∙ r))))
+    (λ q. absurd (never (sym e ∙ q))))
+    not_points
 
 frames_in_range : (f : InForce) (ns : List Next) → force_in_range f ≡ true → AllCoherent ns → force_in_range (force_after f ns) ≡ true
 unfolding force_after
 frames_in_range f [] e c = e
-frames_in_range f (n ∷ ns) e c = frames_in_range (next_answer f n.learn n.frame n.slice).in_force ns (next_in_range f n.learn n.frame n.slice e c.0) c.1
+frames_in_range f (n ∷ ns) e c = frames_in_range (state_after (next_answer f n.learn n.frame n.slice)).in_force ns (next_in_range f n.learn n.frame n.slice e c.0) c.1
 
 frames_scaled : (f : InForce) (ns : List Next) → f.k ≡ scale_of f.n0 → (force_after f ns).k ≡ scale_of (force_after f ns).n0
 unfolding force_after next_answer renewed_of
 frames_scaled f [] e = e
 frames_scaled f (n ∷ ns) e =
-    frames_scaled (next_answer f n.learn n.frame n.slice).in_force ns
-    (if_both (λ (x : Renewed). x.in_force.k ≡ scale_of x.in_force.n0) _ _ _ refl e)
+    frames_scaled (state_after (next_answer f n.learn n.frame n.slice)).in_force ns
+    (answered_both (λ (r : Result Renewed (Refused Renewed)). (state_after r).in_force.k ≡ scale_of (state_after r).in_force.n0) (next_refusal f n.learn (length n.slice)) _ _ refl (λ why. e))
 
 default_scaled : default_force.k ≡ scale_of default_force.n0
 unfolding default_force
@@ -330,32 +353,32 @@ frames_keep ns c =
     record {
       in_range = e;
       scaled = frames_scaled default_force ns default_scaled;
-      nexts = λ l frame slice d.
-          if_both (λ (x : Renewed). x.refusal ≡ 6 → ⊥) _ _ _ (λ z. omega arith) (next_6 f l (length slice) e (coherent_in_range l d));
+      nexts = λ l frame slice d h.
+          next_6 f l (length slice) e (coherent_in_range l d) (by_its_test (next_refusal f l (length slice)) _ _ h);
     }
 
--- ---- THE CHOOSER gives 2^bits points, or nothing where it refuses
-pub part_theorem : (learned nominal : List ℤ) (flags : List Bool) (bits : ℕ) → sets_refusal (length learned) (length nominal) bits ≡ 0 →
-    length (points_in_force learned nominal flags bits) ≡ 2 * 2 ^ bits
+-- ---- THE CHOOSER gives 2^bits points, or the refusal of its test
+pub part_theorem : (learned nominal : List ℤ) (flags : List Bool) (bits : ℕ) → sets_refusal (length learned) (length nominal) bits ≡ Ok tt →
+    IsOkAnd (points_in_force learned nominal flags bits) (λ part. length part ≡ 2 * 2 ^ bits)
 unfolding points_in_force set_of
 part_theorem learned nominal flags bits e =
     let k = sets_taken (length learned) (length nominal) bits e in
     let fits = set_fits bits k.bits_ok in
-    rw (if_yes _ (set_of bits (when get_or flags (bits - 1) false then learned else nominal)) [] (eq-eqb (sets_refusal (length learned) (length nominal) bits) 0 e))
+    rw e
     (if_both (λ (xs : List ℤ). length (set_of bits xs) ≡ 2 * 2 ^ bits) (get_or flags (bits - 1) false) learned nominal
     (part_long (set_start bits) (set_size bits) learned (rw k.learned_long fits)) (part_long (set_start bits) (set_size bits) nominal (rw k.nominal_long fits)))
 
-pub empty_theorem : (learned nominal : List ℤ) (flags : List Bool) (bits : ℕ) → (sets_refusal (length learned) (length nominal) bits ≡ 0 → ⊥) →
-    points_in_force learned nominal flags bits ≡ []
+pub empty_theorem : (learned nominal : List ℤ) (flags : List Bool) (bits : ℕ) (why : Refusal) → sets_refusal (length learned) (length nominal) bits ≡ Err why →
+    points_in_force learned nominal flags bits ≡ Err why
 unfolding points_in_force
-empty_theorem learned nominal flags bits n = if_no _ _ [] (ne_eqb (sets_refusal (length learned) (length nominal) bits) 0 n)
+empty_theorem learned nominal flags bits why n = rw n
 
 -- ---- WHICH POINTS are in force after a frame that is taken: of a set that is learned on it the means, of any other the nominal points,
 -- whatever was learned before
-no_refusal : (m n bits : ℕ) → m ≡ 124 → n ≡ 124 → Bits bits → sets_refusal m n bits ≡ 0
+no_refusal : (m n bits : ℕ) → m ≡ 124 → n ≡ 124 → Bits bits → sets_refusal m n bits ≡ Ok tt
 unfolding sets_refusal
 no_refusal m n bits h k b =
-    if_no _ 4 0 (rw (eq-eqb m 124 h, eq-eqb n 124 k, le-ltb bits 1 b.some, le-ltb 5 bits b.few))
+    if_no _ (Err Points) (Ok tt) (rw (eq-eqb m 124 h, eq-eqb n 124 k, le-ltb bits 1 b.some, le-ltb 5 bits b.few))
 
 flag_is : (l : Learn) (bits : ℕ) → Bits bits → get_or (set_flags l) (bits - 1) false ≡ set_learned l bits
 unfolding set_flags
@@ -376,37 +399,33 @@ means_there l learned bits h b t =
     (slices-here l 5 learned (omega arith) h bits b b.few t)
 
 in_force : (l : Learn) (learned nominal : List ℤ) (bits : ℕ) → length learned ≡ 124 → length nominal ≡ 124 → Bits bits →
-    points_in_force (slices_learned l 5 learned) nominal (set_flags l) bits ≡ (when set_learned l bits then set_means l bits else set_of bits nominal)
+    points_in_force (slices_learned l 5 learned) nominal (set_flags l) bits ≡ Ok (when set_learned l bits then set_means l bits else set_of bits nominal)
 unfolding points_in_force
 in_force l learned nominal bits h k b =
     let xs = slices_learned l 5 learned in
-    if_yes _ _ [] (eq-eqb (sets_refusal (length xs) (length nominal) bits) 0 (no_refusal (length xs) (length nominal) bits (slices-long l 5 learned (omega arith) h) k b))
-    ∙ rw (flag_is l bits b) (if_ap (set_of bits) (set_learned l bits) xs nominal)
-    ∙ if_cong (set_learned l bits) (set_of bits xs) (set_of bits nominal) (set_means l bits) (set_of bits nominal) (means_there l learned bits h b) (λ t. refl)
+    rw (no_refusal (length xs) (length nominal) bits (slices-long l 5 learned (omega arith) h) k b, flag_is l bits b)
+    (ap (λ (ys : List ℤ). Ok ys)
+    (if_ap (set_of bits) (set_learned l bits) xs nominal
+    ∙ if_cong (set_learned l bits) (set_of bits xs) (set_of bits nominal) (set_means l bits) (set_of bits nominal) (means_there l learned bits h b) (λ t. refl)))
 
-pub force_theorem : (f : InForce) (l : Learn) (frame : ℕ) (learned nominal : List ℤ) (bits : ℕ) → next_refusal f l (length learned) ≡ 0 →
+pub force_theorem : (f : InForce) (l : Learn) (frame : ℕ) (learned nominal : List ℤ) (bits : ℕ) → next_refusal f l (length learned) ≡ Ok tt →
     length nominal ≡ 124 → Bits bits →
-    points_in_force (next_slice f l learned) nominal (next_answer f l frame learned).in_force.learned bits
-    ≡ (when set_learned l bits then set_means l bits else set_of bits nominal)
+    points_in_force (next_slice f l learned) nominal (state_after (next_answer f l frame learned)).in_force.learned bits
+    ≡ Ok (when set_learned l bits then set_means l bits else set_of bits nominal)
 unfolding next_slice next_answer renewed_of
 force_theorem f l frame learned nominal bits e h b =
-    let t = eq-eqb (next_refusal f l (length learned)) 0 e in
-    let r = if_yes {A = Renewed} (eqb (next_refusal f l (length learned)) 0) (record { refusal = 0; in_force = renewed_of f l frame; learn = l }) (record { refusal = next_refusal f l (length learned); in_force = f; learn = l }) t in
-    let q = if_yes (eqb (next_refusal f l (length learned)) 0) (slices_learned l 5 learned) learned t in
-    ap (λ (ys : List ℤ). points_in_force ys nominal (next_answer f l frame learned).in_force.learned bits) q
-    ∙ ap (λ (x : Renewed). points_in_force (slices_learned l 5 learned) nominal x.in_force.learned bits) r
-    ∙ in_force l learned nominal bits (next_taken f l (length learned) e).long h b
+    rw e (in_force l learned nominal bits (next_taken f l (length learned) e).long h b)
 
 -- .. and the slice keeps the part of a set that is not learned
-pub slice_theorem : (f : InForce) (l : Learn) (learned : List ℤ) (bits : ℕ) → next_refusal f l (length learned) ≡ 0 → Bits bits →
+pub slice_theorem : (f : InForce) (l : Learn) (learned : List ℤ) (bits : ℕ) → next_refusal f l (length learned) ≡ Ok tt → Bits bits →
     set_of bits (next_slice f l learned) ≡ (when set_learned l bits then set_means l bits else set_of bits learned)
 unfolding next_slice
 slice_theorem f l learned bits e b =
     let h = (next_taken f l (length learned) e).long in
     let xs = slices_learned l 5 learned in
-    ap (set_of bits) (if_yes (eqb (next_refusal f l (length learned)) 0) xs learned (eq-eqb (next_refusal f l (length learned)) 0 e))
-    ∙ if_either (λ (ys : List ℤ). set_of bits xs ≡ ys) (set_learned l bits) (set_means l bits) (set_of bits learned) (means_there l learned bits h b)
-    (λ t. kept h t)
+    rw e
+    (if_either (λ (ys : List ℤ). set_of bits xs ≡ ys) (set_learned l bits) (set_means l bits) (set_of bits learned) (means_there l learned bits h b)
+    (λ t. kept h t))
   where
     kept : length learned ≡ 124 → set_learned l bits ≡ false → set_of bits (slices_learned l 5 learned) ≡ set_of bits learned
     kept h t =

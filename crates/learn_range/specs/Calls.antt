@@ -1,5 +1,9 @@
 -- Calls one after another, from `new` or from the default on.
-use Rattle.std.specs.Prelude.{◌≡◌, true, List, [], ◌∷◌, ℕ, ◌<◌, ℤ}
+use Rattle.std.specs.Prelude.{◌≡◌, true, List, [], ◌∷◌, ℕ, ◌<◌, ℤ, Result, IsErrAnd}
+use Rattle.refusal.specs.Refusals.{state_after}
+use Rattle.refusal.specs.declared.Refusal.{Refusal}
+use Rattle.refusal.specs.declared.Refusal.TheVariants.{Arithmetic}
+use Rattle.refusal.specs.declared.Refused.{Refused}
 use Rattle.demap.specs.Demap.{scale_of}
 use Rattle.learn.specs.declared.Learn.{Learn}
 use Rattle.learn.specs.Answers.{bad_best, pilot_answer, noise_answer, points_answer, figure_answer}
@@ -17,8 +21,8 @@ pub data Call : Type 0 where
 
 -- what a call leaves
 unfoldable pub learn_of : Learn → Call → Learn
-learn_of l (pilot bits t zi zq) = (pilot_answer l bits t zi zq).learn
-learn_of l (noise yi yq best) = (noise_answer l yi yq best).learn
+learn_of l (pilot bits t zi zq) = state_after (pilot_answer l bits t zi zq)
+learn_of l (noise yi yq best) = state_after (noise_answer l yi yq best)
 
 -- .. and after several
 unfoldable pub learn_after : Learn → List Call → Learn
@@ -35,14 +39,18 @@ CallsFit [] = Unit {0}
 CallsFit (c ∷ cs) = CallFits c × CallsFit cs
 
 -- ---- what is true of a `Learn` that came from calls
+-- an answer is this refusal
+abbrev pub RefusedFor : {T S : Type 0} → Result T (Refused S) → Refusal → Type 0
+RefusedFor answer why = IsErrAnd answer (λ refused. refused.why ≡ why)
+
 pub record Sound (l : Learn) : Type 0 where
   pub coherent : Coherent l
   pub in_range : learn_in_range l ≡ true
   -- 6 comes of the arguments alone
-  pub pilots : (bits t : ℕ) (zi zq : ℤ) → (pilot_answer l bits t zi zq).refusal ≡ 6 → 31 < t
-  pub noises : (yi yq best : ℤ) → (noise_answer l yi yq best).refusal ≡ 6 → bad_best best ≡ true
-  pub points : (bits : ℕ) (learned : List ℤ) → (points_answer l bits learned).refusal ≡ 6 → ⊥
-  pub figure : (figure_answer l).refusal ≡ 6 → ⊥
+  pub pilots : (bits t : ℕ) (zi zq : ℤ) → RefusedFor (pilot_answer l bits t zi zq) Arithmetic → 31 < t
+  pub noises : (yi yq best : ℤ) → RefusedFor (noise_answer l yi yq best) Arithmetic → bad_best best ≡ true
+  pub points : (bits : ℕ) (learned : List ℤ) → RefusedFor (points_answer l bits learned) Arithmetic → ⊥
+  pub figure : RefusedFor (figure_answer l) Arithmetic → ⊥
 
 abbrev pub CallsKeep : Type 0
 CallsKeep = (cs : List Call) → CallsFit cs → Sound (learn_after new_learn cs)
@@ -55,7 +63,7 @@ pub record Next : Type 0 where
 
 unfoldable pub force_after : InForce → List Next → InForce
 force_after f [] = f
-force_after f (n ∷ ns) = force_after (next_answer f n.learn n.frame n.slice).in_force ns
+force_after f (n ∷ ns) = force_after (state_after (next_answer f n.learn n.frame n.slice)).in_force ns
 
 abbrev pub AllCoherent : List Next → Type 0
 AllCoherent [] = Unit {0}
@@ -66,7 +74,7 @@ AllCoherent (n ∷ ns) = Coherent n.learn × AllCoherent ns
 pub record ForceSound (f : InForce) : Type 0 where
   pub in_range : force_in_range f ≡ true
   pub scaled : f.k ≡ scale_of f.n0
-  pub nexts : (l : Learn) (frame : ℕ) (slice : List ℤ) → Coherent l → (next_answer f l frame slice).refusal ≡ 6 → ⊥
+  pub nexts : (l : Learn) (frame : ℕ) (slice : List ℤ) → Coherent l → RefusedFor (next_answer f l frame slice) Arithmetic → ⊥
 
 abbrev pub FramesKeep : Type 0
 FramesKeep = (ns : List Next) → AllCoherent ns → ForceSound (force_after default_force ns)

@@ -1,5 +1,6 @@
 -- Laws of text in a buffer, and of numbers as text. Assumes nothing.
-use mathlib.Core.Bool.{true, false}
+use mathlib.Core.Bool.{Bool, true, false}
+use Rattle.std.specs.Int.{from_bool}
 use mathlib.Core.List.{List, [], ◌∷◌, ◌++◌, append_assoc}
 use mathlib.Core.Path.{◌≡◌, refl, sym, ap, ap₂, ◌∙◌}
 use Prim.Native.Nat.{ℕ, suc, ◌+◌, ◌-◌, ◌≤◌, ◌<◌}
@@ -11,12 +12,16 @@ use lib.Dec.{eqb, leb}
 use lib.IntN.{ℤ, pos, negsuc, nat_abs}
 use lib.ListN.{length, get_or, take, drop, set, length-append}
 use lib.Signed.{lt_z}
+use borrow.Author.Rules.{rules}
+use Rattle.std.specs.Prelude.{Result, Ok, Err, ⊤}
 use lib.Seq.{paste, paste-zero, take-length, length-take-le, length-paste, take_at, drop_at, drop-drop, set_split, append_snoc}
 use Rattle.laws.proofs.Tests.{by_test, never}
 use Rattle.laws.specs.Choice.{if_yes, if_no}
 use Rattle.lines.specs.Decimal.{decimal_of, signed_of}
+use Rattle.refusal.specs.declared.Refusal.{Refusal}
+use Rattle.refusal.specs.declared.Refusal.TheVariants.{Stores, Points}
 use Rattle.lines.specs.Place.{written, Wrote, room_refusal, printed_at, printed_into}
-use Rattle.lines.specs.Lines.{value_text, values_to, soft_refusal}
+use Rattle.lines.specs.Lines.{bit, value_text, values_to, soft_refusal}
 
 -- ---- text
 pasted : (o : List ℕ) (at : ℕ) (t : List ℕ) → written o at t ≡ paste o at t (length t)
@@ -66,37 +71,48 @@ pub nothing : (o : List ℕ) (at : ℕ) → at ≤ length o → Wrote o at [] o 
 nothing o at h = copied o at [] o at (omega arith) (paste-zero o at []) (sym (add-zero at))
 
 -- a text was written, and no refusal was due
-pub was_printed : (o : List ℕ) (at : ℕ) (t l : List ℕ) (r n : ℕ) → n ≡ 0 → Wrote o at t l r →
-    (record { refusal = 0; place = r } ≡ printed_at n t at) × (l ≡ printed_into n t at o)
-unfolding printed_at printed_into
-was_printed o at t l r n e w =
-    let z = eq-eqb n 0 e in
-    (ap₂ (λ (k p : ℕ). record { refusal = k; place = p }) (sym e) (w.behind ∙ sym (if_yes _ _ _ z)), w.is ∙ sym (if_yes _ _ _ z))
+pub was_printed : (o : List ℕ) (at : ℕ) (t l : List ℕ) (r : ℕ) (n : Result ⊤ Refusal) → n ≡ Ok Prim.tt → Wrote o at t l r →
+    (◌≡◌ {A = Result ℕ Refusal} (Ok r) (printed_at n t at)) × (l ≡ printed_into n t at o)
+was_printed o at t l r n e w = rw e (ap (λ (p : ℕ). Ok p) w.behind, w.is)
 
--- nothing was written, and refusal k was due
-pub was_refused : (o : List ℕ) (at : ℕ) (t : List ℕ) (n k : ℕ) → n ≡ k → eqb k 0 ≡ false → (record { refusal = k; place = at } ≡ printed_at n t at) × (o ≡ printed_into n t at o)
-unfolding printed_at printed_into
-was_refused o at t n k e f = rw e (ap (λ (p : ℕ). record { refusal = k; place = p }) (sym (if_no _ _ _ f)), sym (if_no _ _ _ f))
+-- nothing was written, and this refusal was due
+pub was_refused : (o : List ℕ) (at : ℕ) (t : List ℕ) (n : Result ⊤ Refusal) (k : Refusal) → n ≡ Err k →
+    (◌≡◌ {A = Result ℕ Refusal} (Err k) (printed_at n t at)) × (o ≡ printed_into n t at o)
+was_refused o at t n k e = rw e (refl, refl)
 
-pub room_yes : (at n : ℕ) → leb (at + 256) n ≡ true → room_refusal at n ≡ 0
+pub ok_same : {T E : Type 0} {t u : T} → (◌≡◌ {A = Result T E} (Ok t) (Ok u)) → t ≡ u
+ok_same h = search rules
+
+pub room_yes : (at n : ℕ) → at + 256 ≤ n → room_refusal at n ≡ Ok Prim.tt
 unfolding room_refusal
-room_yes at n e = if_yes _ _ _ e
+room_yes at n h = if_yes _ _ _ (le-leb (at + 256) n h)
 
-pub room_no : (at n : ℕ) → leb (at + 256) n ≡ false → room_refusal at n ≡ 1
+ok_err : {T E : Type 0} {t : T} {e : E} → (◌≡◌ {A = Result T E} (Ok t) (Err e)) → ⊥
+ok_err h = search rules
+
+-- a test that lets a text through found room
+pub room_ok : (at n : ℕ) (u : Unit {0}) → Ok u ≡ room_refusal at n → at + 256 ≤ n
 unfolding room_refusal
-room_no at n e = if_no _ _ _ e
+room_ok at n u e =
+    by_test (leb (at + 256) n)
+    (λ t. leb-true (at + 256) n t)
+    (λ t. absurd (ok_err (e ∙ if_no _ _ _ t)))
 
-pub soft_yes : (k at n : ℕ) → leb (at + 256) n ≡ true → k ≤ 5 → soft_refusal k at n ≡ 0
-unfolding soft_refusal
-soft_yes k at n e h = if_yes _ _ _ e ∙ if_no _ _ _ (le-ltb 5 k h)
+-- soft lines are refused for want of room as all lines are
+pub soft_room : (k at n : ℕ) (why : Refusal) → Err why ≡ room_refusal at n → soft_refusal k at n ≡ Err why
+unfolding room_refusal soft_refusal
+soft_room k at n why e =
+    by_test (leb (at + 256) n)
+    (λ t. absurd (ok_err (sym (if_yes _ _ _ t) ∙ sym e)))
+    (λ t. if_no _ _ _ t ∙ sym (if_no _ _ _ t) ∙ sym e)
 
-pub soft_many : (k at n : ℕ) → leb (at + 256) n ≡ true → 5 < k → soft_refusal k at n ≡ 4
+pub soft_yes : (k at n : ℕ) → at + 256 ≤ n → k ≤ 5 → soft_refusal k at n ≡ Ok Prim.tt
 unfolding soft_refusal
-soft_many k at n e h = if_yes _ _ _ e ∙ if_yes _ _ _ (lt-ltb 5 k h)
+soft_yes k at n e h = if_yes _ _ _ (le-leb (at + 256) n e) ∙ if_no _ _ _ (le-ltb 5 k h)
 
-pub soft_no : (k at n : ℕ) → leb (at + 256) n ≡ false → soft_refusal k at n ≡ 1
+pub soft_many : (k at n : ℕ) → at + 256 ≤ n → 5 < k → soft_refusal k at n ≡ Err Points
 unfolding soft_refusal
-soft_no k at n e = if_no _ _ _ e
+soft_many k at n e h = if_yes _ _ _ (le-leb (at + 256) n e) ∙ if_yes _ _ _ (lt-ltb 5 k h)
 
 -- ---- values
 pub value_neg : (v : ℤ) → lt_z v (pos 0) ≡ true → value_text v ≡ ((32 ∷ []) ++ (45 ∷ [])) ++ decimal_of (nat_abs v)
@@ -123,3 +139,9 @@ room_by at n h =
     by_test (leb at (n - 256))
     (λ t. let e = leb-true at (n - 256) t in t ∙ sym (le-leb (at + 256) n (omega arith)))
     (λ t. let e = leb-false at (n - 256) t in t ∙ sym (lt-leb (at + 256) n (omega arith)))
+
+-- LOCKED as a number
+pub bit_is : (b : Bool) → from_bool b ≡ bit b
+unfolding bit
+bit_is true = refl
+bit_is false = refl

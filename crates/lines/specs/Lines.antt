@@ -1,11 +1,12 @@
 -- The lines: document 01, "Capture". Letters are ASCII codes; 32 is a blank, 10 ends a line.
-use Rattle.std.specs.Prelude.{ℕ, zero, suc, ◌+◌, Bool, true, false, List, [], ◌∷◌, ◌++◌, leb, ltb, ℤ, pos, length, get_or}
+use Rattle.sync_heads.specs.declared.SlotNumber.{SlotNumber}
+use Rattle.std.specs.Prelude.{ℕ, zero, suc, ◌+◌, Bool, true, false, List, [], ◌∷◌, ◌++◌, leb, ltb, ℤ, pos, length, get_or, Option, None, Some, is_some, Result, Ok, Err, ⊤}
 use Rattle.laws.specs.Choice.{when◌then◌else◌}
+use Rattle.refusal.specs.declared.Refusal.{Refusal}
+use Rattle.refusal.specs.declared.Refusal.TheVariants.{Stores, Points}
 use Rattle.sync_heads.specs.declared.Head.{Head}
 use Rattle.sync_heads.specs.declared.Word.{Word}
 use Rattle.sync_heads.specs.declared.Word.TheVariants.{Ssync, Fsync, NotFsync}
-use Rattle.sync_heads.specs.declared.Slot.{Slot}
-use Rattle.sync_heads.specs.declared.Slot.TheVariants.{Unknown, In}
 use Rattle.sync_step.specs.declared.SyncStats.{SyncStats}
 use Rattle.sync_step.specs.declared.Event.{Event}
 use Rattle.sync_step.specs.declared.Event.TheVariants.{Nothing, Head as HeadEvent, Period, Lost}
@@ -24,7 +25,7 @@ bit true = 1
 unfoldable pub period_line : SyncStats → List ℕ
 period_line p =
     (112 ∷ 101 ∷ 114 ∷ 105 ∷ 111 ∷ 100 ∷ 32 ∷ [])
-    ++ number_then p.peak 32 ++ number_then p.peak_pos 32 ++ number_then p.sum 32 ++ number_then (bit p.locked) 10
+    ++ number_then p.peak 32 ++ number_then p.peak_pos 32 ++ number_then p.sum 32 ++ number_then (bit (is_some p.offset)) 10
 
 -- "S, F or N"
 unfoldable pub letter_of : Word → ℕ
@@ -33,9 +34,9 @@ letter_of Fsync = 70
 letter_of NotFsync = 78
 
 -- NUMBER FRAME, "`-` if unknown"
-unfoldable pub slot_text : Slot → List ℕ
-slot_text Unknown = 45 ∷ 32 ∷ 45 ∷ 10 ∷ []
-slot_text (In number frame) = number_then number 32 ++ number_then frame 10
+unfoldable pub slot_text : Option SlotNumber → List ℕ
+slot_text None = 45 ∷ 32 ∷ 45 ∷ 10 ∷ []
+slot_text (Some s) = number_then s.number 32 ++ number_then s.frame 10
 
 -- `head AT WORD NUMBER FRAME`
 unfoldable pub head_line : Head → List ℕ
@@ -67,8 +68,9 @@ unfoldable pub soft_line : ℕ → ℕ → List ℤ → List ℕ
 soft_line at j vs = (115 ∷ 111 ∷ 102 ∷ 116 ∷ 32 ∷ []) ++ number_then at 32 ++ decimal_of j ++ values_text vs
 
 -- in a buffer: 1 without room; 4, "bits outside 1..5", for more than five values
-unfoldable pub soft_refusal : ℕ → ℕ → ℕ → ℕ
-soft_refusal count place room = when leb (place + 256) room then when ltb 5 count then 4 else 0 else 1
+unfoldable pub soft_refusal : ℕ → ℕ → ℕ → Result ⊤ Refusal
+soft_refusal count place room =
+    when leb (place + 256) room then when ltb 5 count then Err Points else Ok Prim.tt else Err Stores
 
 -- `end SYMBOLS` and `refused NUMBER`
 unfoldable pub end_line : ℕ → List ℕ

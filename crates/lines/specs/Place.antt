@@ -1,7 +1,8 @@
 -- Text in a lent buffer.
-use Rattle.std.specs.Prelude.{ℕ, ◌+◌, ◌≤◌, List, ◌++◌, ◌≡◌, eqb, leb, length, take, drop}
+use Rattle.std.specs.Prelude.{ℕ, ◌+◌, ◌≤◌, List, ◌++◌, ◌≡◌, leb, length, take, drop, Result, Ok, Err, ⊤}
 use Rattle.laws.specs.Choice.{when◌then◌else◌}
-use Rattle.lines.specs.declared.Printed.{Printed}
+use Rattle.refusal.specs.declared.Refusal.{Refusal}
+use Rattle.refusal.specs.declared.Refusal.TheVariants.{Stores}
 
 -- out with t from place `at` on
 unfoldable pub written : List ℕ → ℕ → List ℕ → List ℕ
@@ -16,13 +17,15 @@ pub record Wrote (out : List ℕ) (at : ℕ) (t : List ℕ) (after : List ℕ) (
 
 -- ---- what an entry that writes a text answers, by its refusal
 -- "lent stores", 1: a buffer without room for 256 bytes from the place on, which is more than any line has
-unfoldable pub room_refusal : ℕ → ℕ → ℕ
-room_refusal at room = when leb (at + 256) room then 0 else 1
+unfoldable pub room_refusal : ℕ → ℕ → Result ⊤ Refusal
+room_refusal at room = when leb (at + 256) room then Ok Prim.tt else Err Stores
 
--- the place behind the text; where it is refused, the place as it was given
-unfoldable pub printed_at : ℕ → List ℕ → ℕ → Printed
-printed_at n t at = record { refusal = n; place = when eqb n 0 then at + length t else at }
+-- the place behind the text
+abbrev pub printed_at : Result ⊤ Refusal → List ℕ → ℕ → Result ℕ Refusal
+printed_at (Ok _) t at = Ok (at + length t)
+printed_at (Err why) t at = Err why
 
 -- the buffer afterwards; where it is refused, "lent memory is unchanged"
-unfoldable pub printed_into : ℕ → List ℕ → ℕ → List ℕ → List ℕ
-printed_into n t at out = when eqb n 0 then written out at t else out
+abbrev pub printed_into : Result ⊤ Refusal → List ℕ → ℕ → List ℕ → List ℕ
+printed_into (Ok _) t at out = written out at t
+printed_into (Err why) t at out = out

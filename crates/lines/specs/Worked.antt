@@ -1,10 +1,10 @@
 -- Lines in small, each beside its ASCII codes.
-use Rattle.std.specs.Prelude.{ℕ, ◌-◌, ◌^◌, true, false, List, [], ◌∷◌, pos}
+use Rattle.sync_heads.specs.Numbers.{slot_in}
+use Rattle.sync_heads.specs.declared.SlotNumber.{SlotNumber}
+use Rattle.std.specs.Prelude.{ℕ, ◌-◌, ◌^◌, true, false, List, [], ◌∷◌, pos, Option, None, Some}
 use Rattle.laws.specs.Choice.{minus}
 use Rattle.sync_heads.specs.declared.Head.{Head}
 use Rattle.sync_heads.specs.declared.Word.TheVariants.{Ssync, NotFsync}
-use Rattle.sync_heads.specs.declared.Slot.{Slot}
-use Rattle.sync_heads.specs.declared.Slot.TheVariants.{Unknown, In}
 use Rattle.sync_heads.specs.declared.Word.{Word}
 use Rattle.sync_step.specs.declared.SyncStats.{SyncStats}
 use Rattle.sync_step.specs.declared.Event.TheVariants.{Nothing, Head as HeadEvent, Period, Lost}
@@ -19,7 +19,7 @@ infix 4 ◌reads◌
 abbrev pub ◌reads◌ : List ℕ → List ℕ → Example
 l reads t = record { given = l; said = t }
 
-unfoldable pub head_at : ℕ → Word → Slot → Head
+unfoldable pub head_at : ℕ → Word → Option SlotNumber → Head
 head_at at word slot = record { at = at; word = word; corr = record { re = pos 0; im = pos 0 }; theta = 0; amp = pos 0; slot = slot; nco_phase = 0 }
 
 unfoldable pub stats : ℕ → ℕ → ℕ → SyncStats
@@ -28,9 +28,8 @@ stats peak place sum =
       peak = peak;
       peak_pos = place;
       sum = sum;
-      locked = true;
-      offset = 0;
-      ssync_parity = 0;
+      offset = Some 0;
+      ssync_odd = false;
       stray_markers = 0;
       missed_markers = 0;
     }
@@ -41,9 +40,8 @@ silent =
       peak = 0;
       peak_pos = 0;
       sum = 0;
-      locked = false;
-      offset = 0;
-      ssync_parity = 0;
+      offset = None;
+      ssync_odd = false;
       stray_markers = 0;
       missed_markers = 0;
     }
@@ -60,8 +58,8 @@ worked =
     -- "period 5 7 12 1"
     ∷ (event_line (Period (stats 5 7 12)) reads 112 ∷ 101 ∷ 114 ∷ 105 ∷ 111 ∷ 100 ∷ 32 ∷ 53 ∷ 32 ∷ 55 ∷ 32 ∷ 49 ∷ 50 ∷ 32 ∷ 49 ∷ 10 ∷ [])
     -- "head 23 S - -", "head 40 N 14 3"
-    ∷ (event_line (HeadEvent (head_at 23 Ssync Unknown)) reads 104 ∷ 101 ∷ 97 ∷ 100 ∷ 32 ∷ 50 ∷ 51 ∷ 32 ∷ 83 ∷ 32 ∷ 45 ∷ 32 ∷ 45 ∷ 10 ∷ [])
-    ∷ (event_line (HeadEvent (head_at 40 NotFsync (In 14 3))) reads 104 ∷ 101 ∷ 97 ∷ 100 ∷ 32 ∷ 52 ∷ 48 ∷ 32 ∷ 78 ∷ 32 ∷ 49 ∷ 52 ∷ 32 ∷ 51 ∷ 10 ∷ [])
+    ∷ (event_line (HeadEvent (head_at 23 Ssync None)) reads 104 ∷ 101 ∷ 97 ∷ 100 ∷ 32 ∷ 50 ∷ 51 ∷ 32 ∷ 83 ∷ 32 ∷ 45 ∷ 32 ∷ 45 ∷ 10 ∷ [])
+    ∷ (event_line (HeadEvent (head_at 40 NotFsync (slot_in 14 3))) reads 104 ∷ 101 ∷ 97 ∷ 100 ∷ 32 ∷ 52 ∷ 48 ∷ 32 ∷ 78 ∷ 32 ∷ 49 ∷ 52 ∷ 32 ∷ 51 ∷ 10 ∷ [])
     -- "lost 77", and no line for no event
     ∷ (event_line (Lost 77) reads 108 ∷ 111 ∷ 115 ∷ 116 ∷ 32 ∷ 55 ∷ 55 ∷ 10 ∷ [])
     ∷ (event_line Nothing reads [])

@@ -1,7 +1,8 @@
 -- Laws of the definitions of phase that its proofs cite: sizes of gains and steps, and what is known where nothing refuses. Assumes nothing.
+use Rattle.std.specs.Prelude.{Option, None, Some, Ok}
 use mathlib.Core.Bool.{Bool, true, false, not, ◌&&◌, ◌||◌}
 use mathlib.Core.Path.{◌≡◌, refl, sym}
-use Prim.Native.Nat.{ℕ, suc, ◌+◌, ◌*◌, ◌^◌, ◌≤◌, ◌<◌}
+use Prim.Native.Nat.{ℕ, ◌+◌, ◌*◌, ◌^◌, ◌≤◌, ◌<◌}
 use native.Mathlib.Nat.{div-lt_iff_lt-mul, le_of_suc-le-suc}
 use native.Mathlib.Omega.{arith}
 use borrow.Author.Tests.{ltb-true, ltb-false, leb-true, leb-false, le-ltb, eqb-true}
@@ -15,15 +16,16 @@ use Rattle.fx.proofs.Laws.{not_wide}
 use Rattle.fx.specs.Answers.{wide}
 use Rattle.fx.specs.Fx.{div_round}
 use Rattle.laws.proofs.Size.{Num, arg_le, sfits_abs, times}
+use Rattle.laws.proofs.Taken.{ok_yes, ok_no}
 use Rattle.laws.proofs.Tests.{if_either, never, and_both, neither}
-use Rattle.laws.specs.Choice.{when◌then◌else◌, minus}
+use Rattle.laws.specs.Choice.{minus}
+use Rattle.refusal.specs.declared.Refusal.TheVariants.{Stores, Table, Arithmetic, Position}
+use Rattle.sync_heads.specs.Given.{given_refusal}
 use Rattle.sync_heads.specs.declared.Head.{Head}
 use Rattle.phase.specs.Answers.{past_end, place_past, push_refusal, head_refusal, correct_refusal}
 use Rattle.phase.specs.Phase.{gain_of}
 use Rattle.phase.specs.Ranges.{held_in_range, phase_in_range, whole_in_range, HeadOk, PhaseOk, WholeOk}
 use Rattle.phase.specs.declared.Held.{Held}
-use Rattle.phase.specs.declared.SlotPhase.{SlotPhase}
-use Rattle.phase.specs.declared.SlotPhase.TheVariants.{Idle, Holds}
 use Rattle.phase.specs.declared.WholeSlot.{WholeSlot}
 
 -- ---- gains
@@ -50,20 +52,6 @@ pub stepped : (z : ℤ) (j B : ℕ) → nat_abs z ≤ B → B ≤ 2 ^ 34 → j <
 stepped z j B h k l = times (arg_le B (sfits_abs w64 z (omega (arith, h, k))) h) (index j l)
 
 -- ---- no refusal: what is then known
-no : {X : Type 0} (n : ℕ) → suc n ≡ 0 → X
-no n e = absurd (omega (arith, e))
-
--- a choice between numbers above 0 and a further number that is 0: the test held
-yes_0 : (t : Bool) (a n : ℕ) → (when t then a else suc n) ≡ 0 → (t ≡ true) × (a ≡ 0)
-unfolding when◌then◌else◌
-yes_0 true a n e = (refl, e)
-yes_0 false a n e = no n e
-
-no_0 : (t : Bool) (n b : ℕ) → (when t then suc n else b) ≡ 0 → (t ≡ false) × (b ≡ 0)
-unfolding when◌then◌else◌
-no_0 true n b e = no n e
-no_0 false n b e = (refl, e)
-
 not_true : (t : Bool) → not t ≡ true → t ≡ false
 not_true true e = absurd (never (sym e))
 not_true false e = refl
@@ -75,10 +63,10 @@ held_ok x e =
     let q = and_both (not (wide x.head.amp)) (ltb x.head.at (2 ^ 62)) p.0 in
     record { amp = not_wide x.head.amp (not_true (wide x.head.amp) q.0) }
 
-pub phase_ok : (s : SlotPhase) → phase_in_range s ≡ true → PhaseOk s
+pub phase_ok : (s : Option Held) → phase_in_range s ≡ true → PhaseOk s
 unfolding phase_in_range
-phase_ok Idle e = tt
-phase_ok (Holds x) e = held_ok x e
+phase_ok None e = tt
+phase_ok (Some x) e = held_ok x e
 
 -- a number between -a and b
 between : (z : ℤ) (a b B : ℕ) → le_z (negsuc a) z ≡ true → le_z z (pos b) ≡ true → a < B → b ≤ B → nat_abs z ≤ B
@@ -110,29 +98,33 @@ whole_ok s e =
       gamma = between s.gamma 501810747 501810748 (2 ^ 29) p1.1 p0.1 (omega arith) (omega arith);
     }
 
-pub record PushTaken (s : SlotPhase) (len : ℕ) : Type 0 where
+pub record PushTaken (s : Option Held) (len : ℕ) : Type 0 where
   pub long : len ≡ 18592
   pub in_range : phase_in_range s ≡ true
   pub before_end : past_end s ≡ false
 
-pub push_taken : (s : SlotPhase) (len : ℕ) → push_refusal s len ≡ 0 → PushTaken s len
+pub push_taken : (s : Option Held) (len : ℕ) → push_refusal s len ≡ Ok tt → PushTaken s len
 unfolding push_refusal
 push_taken s len e =
-    let p = yes_0 (eqb len 18592) _ 0 e in
-    let q = yes_0 (phase_in_range s) _ 5 p.1 in
-    record { long = eqb-true len 18592 p.0; in_range = q.0; before_end = (no_0 (past_end s) 6 0 q.1).0 }
+    let p = ok_yes (eqb len 18592) _ Stores e in
+    let q = ok_yes (phase_in_range s) _ Arithmetic p.1 in
+    record { long = eqb-true len 18592 p.0; in_range = q.0; before_end = (ok_no (past_end s) Position (Ok tt) q.1).0 }
 
-pub record HeadTaken (s : SlotPhase) (h : Head) : Type 0 where
+pub record HeadTaken (s : Option Held) (h : Head) : Type 0 where
   pub in_range : phase_in_range s ≡ true
   pub head : HeadOk h
   pub place : h.at < 2 ^ 62
 
-pub head_taken : (s : SlotPhase) (h : Head) → head_refusal s h ≡ 0 → HeadTaken s h
-unfolding head_refusal
+pub head_taken : (s : Option Held) (h : Head) → head_refusal s h ≡ Ok tt → HeadTaken s h
+unfolding head_refusal given_refusal
 head_taken s h e =
-    let p = yes_0 (phase_in_range s) _ 5 e in
-    let q = no_0 (wide h.amp) 5 _ p.1 in
-    record { in_range = p.0; head = record { amp = not_wide h.amp q.0 }; place = leb-false (2 ^ 62) h.at (no_0 (leb (2 ^ 62) h.at) 6 0 q.1).0 }
+    let p = ok_yes (phase_in_range s) _ Arithmetic e in
+    let q = ok_no (wide h.amp) Arithmetic _ p.1 in
+    record {
+      in_range = p.0;
+      head = record { amp = not_wide h.amp q.0 };
+      place = leb-false (2 ^ 62) h.at (ok_no (leb (2 ^ 62) h.at) Position (Ok tt) q.1).0;
+    }
 
 pub record CorrectTaken (s : WholeSlot) (j t k : ℕ) : Type 0 where
   pub store : k ≡ 18592
@@ -141,14 +133,14 @@ pub record CorrectTaken (s : WholeSlot) (j t k : ℕ) : Type 0 where
   pub index : j < 9296
   pub place : s.head.at + j < 2 ^ 62
 
-pub correct_taken : (s : WholeSlot) (j table store : ℕ) → correct_refusal s j table store ≡ 0 → CorrectTaken s j table store
+pub correct_taken : (s : WholeSlot) (j table store : ℕ) → correct_refusal s j table store ≡ Ok tt → CorrectTaken s j table store
 unfolding correct_refusal place_past
 correct_taken s j table store e =
-    let p = yes_0 (eqb store 18592) _ 0 e in
-    let q = yes_0 (eqb table 1024) _ 2 p.1 in
-    let r = yes_0 (whole_in_range s && ltb j 9296) _ 5 q.1 in
+    let p = ok_yes (eqb store 18592) _ Stores e in
+    let q = ok_yes (eqb table 1024) _ Table p.1 in
+    let r = ok_yes (whole_in_range s && ltb j 9296) _ Arithmetic q.1 in
     let b = and_both (whole_in_range s) (ltb j 9296) r.0 in
-    let k = neither (leb (2 ^ 62) (s.head.at + j)) (leb (2 ^ 62) s.next.at) (no_0 (leb (2 ^ 62) (s.head.at + j) || leb (2 ^ 62) s.next.at) 6 0 r.1).0 in
+    let k = neither (leb (2 ^ 62) (s.head.at + j)) (leb (2 ^ 62) s.next.at) (ok_no (leb (2 ^ 62) (s.head.at + j) || leb (2 ^ 62) s.next.at) Position (Ok tt) r.1).0 in
     record {
       store = eqb-true store 18592 p.0;
       table = eqb-true table 1024 q.0;

@@ -1,5 +1,5 @@
 -- "A slot is corrected, as `SlotPhase::correct`, only if at least 9,296 symbols came between two heads; those past the 9,296th are ignored."
-use Rattle.std.specs.Prelude.{ℕ, ◌+◌, ◌*◌, List, eqb, ltb, ℤ, pos, ◌+ℤ◌, ◌-ℤ◌, ◌*ℤ◌, get_or, set}
+use Rattle.std.specs.Prelude.{ℕ, ◌+◌, ◌*◌, List, eqb, ltb, ℤ, pos, ◌+ℤ◌, ◌-ℤ◌, ◌*ℤ◌, get_or, set, Option, None, Some}
 use Rattle.std.specs.Int.Signed.{lt_z}
 use Rattle.laws.specs.Choice.{when◌then◌else◌}
 use Rattle.fx.specs.Fx.{round_shift, div_round, sat16_of, round_index, cos_sin_at}
@@ -7,11 +7,7 @@ use Rattle.angles.specs.Angles.{turned_by, turn_from, turned_back}
 use Rattle.angles.specs.declared.Symbol.{Symbol}
 use Rattle.sync_heads.specs.declared.Head.{Head}
 use Rattle.phase.specs.declared.Held.{Held}
-use Rattle.phase.specs.declared.SlotPhase.{SlotPhase}
-use Rattle.phase.specs.declared.SlotPhase.TheVariants.{Idle, Holds}
 use Rattle.phase.specs.declared.WholeSlot.{WholeSlot}
-use Rattle.phase.specs.declared.Due.{Due}
-use Rattle.phase.specs.declared.Due.TheVariants.{Nothing, Slot}
 use Rattle.phase.specs.declared.Corrected.{Corrected}
 
 -- ---- gain
@@ -22,26 +18,26 @@ gain_of amp = div_round (pos 4555500750) (when lt_z amp (pos 64) then pos 64 els
 
 -- ---- what is held
 -- a head's slot begins
-unfoldable pub begun_of : Head → SlotPhase
-begun_of h = Holds (record { head = h; count = 0 })
+unfoldable pub begun_of : Head → Option Held
+begun_of h = Some (record { head = h; count = 0 })
 
 -- a symbol is counted up to the n-th: 9,296
 unfoldable pub counted_in : ℕ → Held → Held
 counted_in n x = when ltb x.count n then record { head = x.head; count = x.count + 1 } else x
 
-unfoldable pub pushed_in : ℕ → SlotPhase → SlotPhase
-pushed_in n Idle = Idle
-pushed_in n (Holds x) = Holds (counted_in n x)
+unfoldable pub pushed_in : ℕ → Option Held → Option Held
+pushed_in n None = None
+pushed_in n (Some x) = Some (counted_in n x)
 
 -- .. and written at its place: entries 2j and 2j + 1 for symbol j; all else stays
-unfoldable pub stored_in : ℕ → SlotPhase → ℤ → ℤ → List ℤ → List ℤ
-stored_in n Idle i q store = store
-stored_in n (Holds x) i q store = when ltb x.count n then set (set store (2 * x.count) i) (2 * x.count + 1) q else store
+unfoldable pub stored_in : ℕ → Option Held → ℤ → ℤ → List ℤ → List ℤ
+stored_in n None i q store = store
+stored_in n (Some x) i q store = when ltb x.count n then set (set store (2 * x.count) i) (2 * x.count + 1) q else store
 
-abbrev pub pushed_of : SlotPhase → SlotPhase
+abbrev pub pushed_of : Option Held → Option Held
 pushed_of s = pushed_in 9296 s
 
-abbrev pub stored_of : SlotPhase → ℤ → ℤ → List ℤ → List ℤ
+abbrev pub stored_of : Option Held → ℤ → ℤ → List ℤ → List ℤ
 stored_of s i q store = stored_in 9296 s i q store
 
 -- ---- the slot to correct
@@ -60,11 +56,11 @@ whole_of a b =
     }
 
 -- the slot that a head completes, if its n symbols came
-unfoldable pub due_in : ℕ → SlotPhase → Head → Due
-due_in n Idle h = Nothing
-due_in n (Holds x) h = when eqb x.count n then Slot (whole_of x.head h) else Nothing
+unfoldable pub due_in : ℕ → Option Held → Head → Option WholeSlot
+due_in n None h = None
+due_in n (Some x) h = when eqb x.count n then Some (whole_of x.head h) else None
 
-abbrev pub due_of : SlotPhase → Head → Due
+abbrev pub due_of : Option Held → Head → Option WholeSlot
 due_of s h = due_in 9296 s h
 
 -- ---- a corrected symbol

@@ -1,21 +1,19 @@
 -- The ranges of docs/RANGES.md, "Phase", and what the correction needs; the ranges imply it.
-use Rattle.std.specs.Prelude.{◌≤◌, ◌^◌, Bool, true, not, ◌&&◌, leb, ltb, pos, nat_abs}
+use Rattle.std.specs.Prelude.{◌≤◌, ◌^◌, Bool, true, not, ◌&&◌, leb, ltb, pos, nat_abs, Option, None, Some}
 use Rattle.std.specs.Int.Signed.{le_z}
 use Rattle.laws.specs.Choice.{minus}
 use Rattle.fx.specs.Answers.{wide}
 use Rattle.sync_heads.specs.declared.Head.{Head}
 use Rattle.phase.specs.declared.Held.{Held}
-use Rattle.phase.specs.declared.SlotPhase.{SlotPhase}
-use Rattle.phase.specs.declared.SlotPhase.TheVariants.{Idle, Holds}
 use Rattle.phase.specs.declared.WholeSlot.{WholeSlot}
 
 -- a head is held only if it was given with an amp of size up to 2^60 and a position below 2^62
 unfoldable pub held_in_range : Held → Bool
 held_in_range x = not (wide x.head.amp) && ltb x.head.at (2 ^ 62) && leb x.count 9296
 
-unfoldable pub phase_in_range : SlotPhase → Bool
-phase_in_range Idle = true
-phase_in_range (Holds x) = held_in_range x
+unfoldable pub phase_in_range : Option Held → Bool
+phase_in_range None = true
+phase_in_range (Some x) = held_in_range x
 
 -- the steps of differences from -2^31 to 2^31 - 1, and from -71,179,699 to 71,179,699; the gain of an amp of 64 and less, or of 2^60.
 -- Positions are left to the row of positions
@@ -32,9 +30,9 @@ whole_in_range s =
 pub record HeadOk (h : Head) : Type 0 where
   pub amp : nat_abs h.amp ≤ 2 ^ 60
 
-abbrev pub PhaseOk : SlotPhase → Type 0
-PhaseOk Idle = Unit {0}
-PhaseOk (Holds x) = HeadOk x.head
+abbrev pub PhaseOk : Option Held → Type 0
+PhaseOk None = Unit {0}
+PhaseOk (Some x) = HeadOk x.head
 
 pub record WholeOk (s : WholeSlot) : Type 0 where
   pub delta : nat_abs s.delta ≤ 2 ^ 34

@@ -6,25 +6,18 @@ pub mod plain;
 pub mod ranged;
 mod refusals;
 
-ghost use Rattle.std.specs.Prelude.{◌≡◌};
+ghost use Rattle.std.specs.Prelude.{◌≡◌, None};
 ghost use Rattle.phase.specs.Answers.{gain_answer, restart_answer, push_answer, push_store, head_answer, correct_answer};
-ghost use Rattle.phase.specs.declared.SlotPhase.TheVariants.{Idle};
 
 use angles::Symbol;
-use fx::Whole;
-use sync_heads::{Head, Slot, Word};
+use refusal::{Refusal, Refused};
+use sync_heads::{Head, SlotNumber, Word};
 
 // The current slot's head, and how many of its symbols came.
 #[derive(Clone, Copy)]
 pub struct Held {
     pub head: Head,
     pub count: u32,
-}
-
-#[derive(Clone, Copy)]
-pub enum SlotPhase {
-    Idle,
-    Holds(Held),
 }
 
 // A slot to correct: its head and the next, the phase step and the gain step a symbol, with 16 fraction bits, and the gain at its head.
@@ -37,18 +30,12 @@ pub struct WholeSlot {
     pub gamma: i64,
 }
 
-#[derive(Clone, Copy)]
-pub enum Due {
-    Nothing,
-    Slot(WholeSlot),
-}
-
 // One corrected symbol.
 #[derive(Clone, Copy)]
 pub struct Corrected {
     pub at: u64,
     pub word: Word,
-    pub slot: Slot,
+    pub slot: Option<SlotNumber>,
     pub j: u16,
     pub r: Symbol,
     pub phi: u32,
@@ -56,122 +43,83 @@ pub struct Corrected {
     pub y: Symbol,
 }
 
-// The symbol, if it is not refused.
-#[derive(Clone, Copy)]
-pub enum Told {
-    Nothing,
-    Given(Corrected),
-}
-
-// A symbol of a slot, and the slot as it was handed in.
-#[derive(Clone, Copy)]
-pub struct Answered {
-    pub refusal: u8,
-    pub slot: WholeSlot,
-    pub told: Told,
-}
-
-#[derive(Clone, Copy)]
-pub struct Kept {
-    pub refusal: u8,
-    pub phase: SlotPhase,
-}
-
+// What a head leaves: its own slot, begun, and the slot before, if it is to be corrected.
 #[derive(Clone, Copy)]
 pub struct Headed {
-    pub refusal: u8,
-    pub phase: SlotPhase,
-    pub due: Due,
+    pub phase: Option<Held>,
+    pub due: Option<WholeSlot>,
 }
 
 // The gain of a head's magnitude, with 17 fraction bits.
-pub fn gain_of(amp: i64) -> Whole
+pub fn gain_of(amp: i64) -> Result<i64, Refusal>
     ensures { result ≡ gain_answer amp }
 {
     if fx::plain::wide(amp) {
-        Whole::Refused(6)
+        Err(Refusal::Arithmetic)
     } else {
-        Whole::Value(ranged::gain_of(amp))
+        Ok(ranged::gain_of(amp))
     }
 }
 
-pub fn new() -> SlotPhase
-    ensures { result ≡ Idle }
+pub fn new() -> Option<Held>
+    ensures { result ≡ None }
 {
-    SlotPhase::Idle
+    None
 }
 
 // What is held is dropped.
-pub fn restart(s: SlotPhase) -> Kept
+pub fn restart(s: Option<Held>) -> Result<Option<Held>, Refused<Option<Held>>>
     ensures { result ≡ restart_answer s }
 {
     if plain::in_range(s) {
-        Kept {
-            refusal: 0,
-            phase: SlotPhase::Idle,
-        }
+        Ok(None)
     } else {
-        Kept {
-            refusal: 6,
-            phase: s,
-        }
+        Err(Refused {
+            why: Refusal::Arithmetic,
+            state: s,
+        })
     }
 }
 
 // One rotated symbol of the current slot.
-pub fn push(s: SlotPhase, i: i16, q: i16, store: &mut [i16]) -> Kept
+pub fn push(
+    s: Option<Held>,
+    i: i16,
+    q: i16,
+    store: &mut [i16],
+) -> Result<Option<Held>, Refused<Option<Held>>>
     ensures { (result ≡ push_answer s store.old) × (store.new ≡ push_store s i q store.old) }
 {
-    let n = refusals::push(s, store.len());
-    if n == 0 {
-        Kept {
-            refusal: 0,
-            phase: ranged::pushed(s, i, q, store),
-        }
-    } else {
-        Kept {
-            refusal: n,
-            phase: s,
-        }
+    match refusals::push(s, store.len()) {
+        Ok(()) => Ok(ranged::pushed(s, i, q, store)),
+        Err(why) => Err(Refused { why, state: s }),
     }
 }
 
 // The next head: the held slot, if whole, is to be corrected, and this head's slot starts.
-pub fn head(s: SlotPhase, h: Head) -> Headed
+pub fn head(s: Option<Held>, h: Head) -> Result<Headed, Refused<Option<Held>>>
     ensures { result ≡ head_answer s h }
 {
-    let n = refusals::head(s, h);
-    if n == 0 {
-        Headed {
-            refusal: 0,
+    match refusals::head(s, h) {
+        Ok(()) => Ok(Headed {
             phase: plain::begun(h),
             due: ranged::due(s, h),
-        }
-    } else {
-        Headed {
-            refusal: n,
-            phase: s,
-            due: Due::Nothing,
-        }
+        }),
+        Err(why) => Err(Refused { why, state: s }),
     }
 }
 
 // Symbol j of a slot to correct.
-pub fn correct(s: WholeSlot, j: usize, table: &[i16], store: &[i16]) -> Answered
+pub fn correct(
+    s: WholeSlot,
+    j: usize,
+    table: &[i16],
+    store: &[i16],
+) -> Result<Corrected, Refused<WholeSlot>>
     ensures { result ≡ correct_answer s j table.now store.now }
 {
-    let n = refusals::correct(s, j, table.len(), store.len());
-    if n == 0 {
-        Answered {
-            refusal: 0,
-            slot: s,
-            told: Told::Given(ranged::corrected(s, j, table, store)),
-        }
-    } else {
-        Answered {
-            refusal: n,
-            slot: s,
-            told: Told::Nothing,
-        }
+    match refusals::correct(s, j, table.len(), store.len()) {
+        Ok(()) => Ok(ranged::corrected(s, j, table, store)),
+        Err(why) => Err(Refused { why, state: s }),
     }
 }

@@ -3,28 +3,27 @@ ghost use Rattle.std.specs.Prelude.{◌≡◌, ◌<◌};
 ghost use Rattle.phase.specs.Phase.{begun_of};
 ghost use Rattle.phase.specs.Ranges.{phase_in_range, held_in_range};
 
-use crate::{Held, SlotPhase};
+use crate::Held;
 use sync_heads::Head;
 
 // A head's slot, of which no symbol came yet.
-pub fn begun(h: Head) -> SlotPhase
+pub fn begun(h: Head) -> Option<Held>
     ensures { result ≡ begun_of h }
 {
-    SlotPhase::Holds(Held { head: h, count: 0 })
+    Some(Held { head: h, count: 0 })
 }
 
 fn held_in_range(x: Held) -> bool
     ensures { result ≡ held_in_range x }
 {
-    let h = x.head;
-    !fx::plain::wide(h.amp) & (h.at < 0x4000_0000_0000_0000) & (x.count <= 9296)
+    !fx::plain::wide(x.head.amp) & (x.head.at < 0x4000_0000_0000_0000) & (x.count <= 9296)
 }
 
-pub(crate) fn in_range(s: SlotPhase) -> bool
+pub(crate) fn in_range(s: Option<Held>) -> bool
     ensures { result ≡ phase_in_range s }
 {
     match s {
-        SlotPhase::Idle => true,
-        SlotPhase::Holds(x) => held_in_range(x),
+        None => true,
+        Some(x) => held_in_range(x),
     }
 }

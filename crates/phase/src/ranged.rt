@@ -3,7 +3,7 @@ ghost use Rattle.std.specs.Prelude.{◌≡◌, ◌+◌, ◌≤◌, ◌<◌, ◌^
 ghost use Rattle.phase.specs.Phase.{gain_of, per_symbol, whole_of, due_of, pushed_of, stored_of, phase_at, gain_at, scaled_of, corrected_of};
 ghost use Rattle.phase.specs.Ranges.{HeadOk, PhaseOk, WholeOk};
 
-use crate::{Corrected, Due, Held, SlotPhase, WholeSlot};
+use crate::{Corrected, Held, WholeSlot};
 use angles::Symbol;
 use sync_heads::Head;
 
@@ -42,48 +42,46 @@ fn whole(a: Head, b: Head) -> WholeSlot
 }
 
 // The slot that the next head completes, if all its symbols came.
-pub fn due(s: SlotPhase, h: Head) -> Due
+pub fn due(s: Option<Held>, h: Head) -> Option<WholeSlot>
     requires { (PhaseOk s) × (HeadOk h) }
     ensures { result ≡ due_of s h }
 {
     match s {
-        SlotPhase::Idle => Due::Nothing,
-        SlotPhase::Holds(x) => {
+        None => None,
+        Some(x) => {
             if x.count == 9296 {
-                let a = x.head;
-                Due::Slot(whole(a, h))
+                Some(whole(x.head, h))
             } else {
-                Due::Nothing
+                None
             }
         }
     }
 }
 
 // One symbol into the store, and counted; past the 9,296th, or with no slot held, it is ignored.
-pub fn pushed(s: SlotPhase, i: i16, q: i16, store: &mut [i16]) -> SlotPhase
+pub fn pushed(s: Option<Held>, i: i16, q: i16, store: &mut [i16]) -> Option<Held>
     requires { length store.old ≡ 18592 }
     ensures { (result ≡ pushed_of s) × (store.new ≡ stored_of s i q store.old) }
 {
     match s {
-        SlotPhase::Idle => SlotPhase::Idle,
-        SlotPhase::Holds(x) => {
-            let c = x.count;
-            let h = x.head;
-            if c < 9296 {
-                let k = 2 * (c as usize);
+        None => None,
+        Some(x) => {
+            if x.count < 9296 {
+                let k = 2 * (x.count as usize);
                 store[k] = i;
                 store[k + 1] = q;
-                SlotPhase::Holds(Held {
-                    head: h,
-                    count: c + 1,
+                Some(Held {
+                    count: x.count + 1,
+                    ..x
                 })
             } else {
-                SlotPhase::Holds(Held { head: h, count: c })
+                Some(x)
             }
         }
     }
 }
 
+// Phase and gain at symbol j. The one wraps around and the other has a bound, so that one function for both would be no plainer.
 fn phase_at(theta: u32, delta: i64, j: usize) -> u32
     requires { (nat_abs delta ≤ 2 ^ 34) × (j < 9296) }
     ensures { result ≡ phase_at theta delta j }
@@ -99,17 +97,15 @@ fn gain_at(gain: i64, gamma: i64, j: usize) -> i64
 }
 
 // A symbol turned back by an angle and multiplied by a gain.
-fn scaled(table: &[i16], phi: u32, gain: i64, i: i16, q: i16) -> Symbol
+fn scaled(table: &[i16], phi: u32, gain: i64, r: Symbol) -> Symbol
     requires { (length table.now ≡ 1024) × (nat_abs gain ≤ 2 ^ 28) }
-    ensures { result ≡ scaled_of table.now phi gain i q }
+    ensures { result ≡ scaled_of table.now phi gain r.i r.q }
 {
     let p = fx::ranged::cos_sin_round(table, phi);
-    let u = angles::ranged::turn_back(p, i as i64, q as i64, 15);
-    let re = u.re;
-    let im = u.im;
+    let u = angles::ranged::turn_back(p, r.i as i64, r.q as i64, 15);
     Symbol {
-        i: fx::plain::sat16(fx::ranged::round_shift(re * gain, 17)),
-        q: fx::plain::sat16(fx::ranged::round_shift(im * gain, 17)),
+        i: fx::plain::sat16(fx::ranged::round_shift(u.re * gain, 17)),
+        q: fx::plain::sat16(fx::ranged::round_shift(u.im * gain, 17)),
     }
 }
 
@@ -118,20 +114,20 @@ pub fn corrected(s: WholeSlot, j: usize, table: &[i16], store: &[i16]) -> Correc
     ensures { result ≡ corrected_of s table.now store.now j }
 {
     let h = s.head;
-    let w = h.word;
-    let n = h.slot;
     let phi = phase_at(h.theta, s.delta, j);
     let gain = gain_at(s.gain, s.gamma, j);
-    let i = store[2 * j];
-    let q = store[2 * j + 1];
+    let r = Symbol {
+        i: store[2 * j],
+        q: store[2 * j + 1],
+    };
     Corrected {
         at: h.at + (j as u64),
-        word: w,
-        slot: n,
+        word: h.word,
+        slot: h.slot,
         j: j as u16,
-        r: Symbol { i: i, q: q },
-        phi: phi,
-        gain: gain,
-        y: scaled(table, phi, gain, i, q),
+        r,
+        phi,
+        gain,
+        y: scaled(table, phi, gain, r),
     }
 }

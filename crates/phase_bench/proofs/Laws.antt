@@ -1,4 +1,5 @@
 -- One more symbol of a block, and of a slot. Assumes nothing.
+use Rattle.std.specs.Prelude.{Option, None, Some, Result}
 use mathlib.Core.Bool.{true, ◌&&◌}
 use mathlib.Core.List.{List}
 use mathlib.Core.Path.{◌≡◌}
@@ -12,14 +13,15 @@ use lib.ListN.{length, get_or, set}
 use Rattle.angles.specs.declared.Symbol.{Symbol}
 use Rattle.carrier.specs.Carrier.{rotated_of, advanced_nco}
 use Rattle.carrier.specs.declared.Nco.{Nco}
-use Rattle.laws.proofs.Tests.{if_either, if_both, and_both}
+use Rattle.laws.proofs.Tests.{if_both, and_both}
+use Rattle.refusal.proofs.Answered.{answered_either}
+use Rattle.refusal.specs.declared.Refused.{Refused}
 use Rattle.phase.proofs.Laws.{head_taken, phase_ok, whole_ok}
-use Rattle.phase.specs.Answers.{head_refusal, head_answer}
+use Rattle.phase.specs.Answers.{head_refusal, head_answer, headed_due}
 use Rattle.phase.specs.Phase.{begun_of, whole_of, due_of, corrected_of, due_in}
 use Rattle.phase.specs.Ranges.{HeadOk}
-use Rattle.phase.specs.declared.Due.TheVariants.{Nothing, Slot}
 use Rattle.phase.specs.declared.Headed.{Headed}
-use Rattle.phase.specs.declared.SlotPhase.TheVariants.{Holds}
+use Rattle.phase.specs.declared.Held.{Held}
 use Rattle.phase_range.proofs.Steps.{whole_in_range_lem}
 use Rattle.sync_heads.specs.declared.Head.{Head}
 use Rattle.phase.specs.declared.Corrected.{Corrected}
@@ -40,23 +42,22 @@ unfolding corrected_all corrected_one
 correct_more w table store j p₀ p c ep ec = rw (add-one j, ← ep, ec)
 
 -- what a slot that is due has
-whole_due : (a b : Head) → HeadOk a → HeadOk b → a.at + 9296 ≤ 2 ^ 62 → DueOk (Slot (whole_of a b))
+whole_due : (a b : Head) → HeadOk a → HeadOk b → a.at + 9296 ≤ 2 ^ 62 → DueOk (Some (whole_of a b))
 unfolding whole_of
 whole_due a b ha hb room = (whole_ok (whole_of a b) (whole_in_range_lem a b ha hb), place a b room)
   where
     place : (a b : Head) → a.at + 9296 ≤ 2 ^ 62 → (whole_of a b).head.at + 9296 ≤ 2 ^ 62
     place a b h = h
 
-pub due_ok : (a b : Head) → a.at + 9296 ≤ 2 ^ 62 → DueOk (head_answer (Holds (record { head = a; count = 9296 })) b).due
+pub due_ok : (a b : Head) → a.at + 9296 ≤ 2 ^ 62 → DueOk (headed_due (head_answer (Some (record { head = a; count = 9296 })) b))
 unfolding head_answer due_in
 due_ok a b room =
-    let s = Holds (record { head = a; count = 9296 }) in
-    let n = head_refusal s b in
-    if_either (λ (k : Headed). DueOk k.due) (eqb n 0) (record { refusal = 0; phase = begun_of b; due = due_of s b }) (record { refusal = n; phase = s; due = Nothing })
+    let s : Option Held = Some (record { head = a; count = 9296 }) in
+    answered_either (λ (x : Result Headed (Refused (Option Held))). DueOk (headed_due x)) (head_refusal s b) s (record { phase = begun_of b; due = due_of s b })
     (λ e.
-    let t = head_taken s b (eqb-true n 0 e) in
-    if_both DueOk (eqb 9296 9296) (Slot (whole_of a b)) Nothing (whole_due a b (phase_ok s t.in_range) t.head room) tt)
-    (λ e. tt)
+    let t = head_taken s b e in
+    if_both DueOk (eqb 9296 9296) (Some (whole_of a b)) None (whole_due a b (phase_ok s t.in_range) t.head room) tt)
+    (λ why e. tt)
 
 pub at_zero : (theta : ℕ) (amp : ℤ) → (head_of 0 theta amp).at + 9296 ≤ 2 ^ 62
 unfolding head_of

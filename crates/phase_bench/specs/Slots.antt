@@ -1,16 +1,12 @@
 -- A slot of corrected symbols.
-use Rattle.std.specs.Prelude.{ℕ, zero, suc, ◌+◌, ◌*◌, ◌≤◌, ◌^◌, Bool, ◌&&◌, List, eqb, ℤ, pos, length, set}
+use Rattle.std.specs.Prelude.{ℕ, zero, suc, ◌+◌, ◌*◌, ◌≤◌, ◌^◌, Bool, ◌&&◌, List, eqb, ℤ, pos, length, set, Option, None, Some}
 use Rattle.laws.specs.Choice.{when◌then◌else◌}
 use Rattle.phase.specs.Phase.{corrected_of}
 use Rattle.phase.specs.Ranges.{WholeOk}
-use Rattle.phase.specs.Answers.{head_answer}
+use Rattle.phase.specs.Answers.{head_answer, headed_due}
 use Rattle.phase.specs.declared.WholeSlot.{WholeSlot}
-use Rattle.phase.specs.declared.SlotPhase.TheVariants.{Holds}
-use Rattle.phase.specs.declared.Due.{Due}
-use Rattle.phase.specs.declared.Due.TheVariants.{Nothing, Slot}
 use Rattle.sync_heads.specs.declared.Head.{Head}
 use Rattle.sync_heads.specs.declared.Word.TheVariants.{Ssync}
-use Rattle.sync_heads.specs.declared.Slot.TheVariants.{Unknown}
 
 -- corrected symbols, phases and gains
 pub record Places : Type 0 where
@@ -35,16 +31,16 @@ corrected_all w table store (suc j) p = corrected_one w table store j (corrected
 -- a head of which only position, angle and magnitude matter
 unfoldable pub head_of : ℕ → ℕ → ℤ → Head
 head_of at theta amp =
-    record { at = at; word = Ssync; corr = record { re = pos 0; im = pos 0 }; theta = theta; amp = amp; slot = Unknown; nco_phase = 0 }
+    record { at = at; word = Ssync; corr = record { re = pos 0; im = pos 0 }; theta = theta; amp = amp; slot = None; nco_phase = 0 }
 
 -- the slot between two of them
-unfoldable pub due_between : ℕ → ℤ → ℕ → ℤ → Due
-due_between theta amp next last = (head_answer (Holds (record { head = head_of 0 theta amp; count = 9296 })) (head_of 9296 next last)).due
+unfoldable pub due_between : ℕ → ℤ → ℕ → ℤ → Option WholeSlot
+due_between theta amp next last = headed_due (head_answer (Some (record { head = head_of 0 theta amp; count = 9296 })) (head_of 9296 next last))
 
 -- what a slot that is due has
-abbrev pub DueOk : Due → Type 0
-DueOk Nothing = Unit {0}
-DueOk (Slot w) = WholeOk w × (w.head.at + 9296 ≤ 2 ^ 62)
+abbrev pub DueOk : Option WholeSlot → Type 0
+DueOk None = Unit {0}
+DueOk (Some w) = WholeOk w × (w.head.at + 9296 ≤ 2 ^ 62)
 
 -- lengths that fit a slot
 abbrev pub fitting : List ℤ → List ℤ → Places → Bool
@@ -52,10 +48,10 @@ fitting table store p =
     eqb (length table) 1024 && eqb (length store) 18592 && eqb (length p.y) 18592 && eqb (length p.phi) 9296 && eqb (length p.gain) 9296
 
 -- 0; 1, a length is another; 6, a magnitude is too wide, so that no slot is due
-unfoldable pub corrected_code : Due → Bool → ℕ
-corrected_code Nothing fit = 6
-corrected_code (Slot w) fit = when fit then 0 else 1
+unfoldable pub corrected_code : Option WholeSlot → Bool → ℕ
+corrected_code None fit = 6
+corrected_code (Some w) fit = when fit then 0 else 1
 
-unfoldable pub corrected_places : Due → List ℤ → List ℤ → Places → Places
-corrected_places Nothing table store p = p
-corrected_places (Slot w) table store p = when fitting table store p then corrected_all w table store 9296 p else p
+unfoldable pub corrected_places : Option WholeSlot → List ℤ → List ℤ → Places → Places
+corrected_places None table store p = p
+corrected_places (Some w) table store p = when fitting table store p then corrected_all w table store 9296 p else p

@@ -7,9 +7,9 @@ ghost use Rattle.phase_bench.specs.Blocks.{turned, rotated_all, rotated_phase, r
 ghost use Rattle.phase_bench.specs.Slots.{places, corrected_all, head_of, due_between, DueOk, fitting, corrected_code, corrected_places};
 
 use carrier::Nco;
-use phase::{Due, Held, SlotPhase, WholeSlot};
+use phase::{Held, WholeSlot};
 use sync_corr::Corr;
-use sync_heads::{Head, Slot, Word};
+use sync_heads::{Head, Word};
 
 // Each symbol of xs rotated into out.
 fn rotate_all(n: Nco, xs: &[i8], table: &[i16], out: &mut [i16]) -> Nco
@@ -18,15 +18,11 @@ fn rotate_all(n: Nco, xs: &[i8], table: &[i16], out: &mut [i16]) -> Nco
 {
     let m = xs.len() / 2;
     let mut r = n;
-    let mut k: usize = 0;
-    while k < m {
+    for k in 0..m {
         let x = carrier::ranged::rotated(table, r.phase, xs[2 * k], xs[2 * k + 1]);
-        let i = x.i;
-        let q = x.q;
-        out[2 * k] = i;
-        out[2 * k + 1] = q;
+        out[2 * k] = x.i;
+        out[2 * k + 1] = x.q;
         r = carrier::plain::advanced(r);
-        k += 1;
     }
     r
 }
@@ -38,9 +34,7 @@ pub extern "C" fn measure_rotate(freq: i32, xs: &[i8], table: &[i16], out: &mut 
     ensures { (result ≡ rotated_phase freq xs.now table.now out.old) × (out.new ≡ rotated_out freq xs.now table.now out.old) }
 {
     if (table.len() == 1024) & (xs.len() <= out.len()) {
-        let n = carrier::plain::started(0, freq);
-        let r = rotate_all(n, xs, table, out);
-        r.phase
+        rotate_all(carrier::plain::started(0, freq), xs, table, out).phase
     } else {
         0
     }
@@ -58,18 +52,12 @@ fn correct_all(
     requires { (WholeOk w) × (w.head.at + 9296 ≤ 2 ^ 62) × (length table.now ≡ 1024) × (length store.now ≡ 18592) × (length y.old ≡ 18592) × (length phi.old ≡ 9296) × (length gain.old ≡ 9296) }
     ensures { places y.new phi.new gain.new ≡ corrected_all w table.now store.now 9296 (places y.old phi.old gain.old) }
 {
-    let mut j: usize = 0;
-    while j < 9296 {
+    for j in 0..9296 {
         let c = phase::ranged::corrected(w, j, table, store);
-        let z = c.y;
-        let i = z.i;
-        let q = z.q;
-        let g = c.gain;
-        y[2 * j] = i;
-        y[2 * j + 1] = q;
+        y[2 * j] = c.y.i;
+        y[2 * j + 1] = c.y.q;
         phi[j] = c.phi;
-        gain[j] = g;
-        j += 1;
+        gain[j] = c.gain;
     }
 }
 
@@ -77,31 +65,28 @@ fn head_of(at: u64, theta: u32, amp: i64) -> Head
     ensures { result ≡ head_of at theta amp }
 {
     Head {
-        at: at,
+        at,
         word: Word::Ssync,
         corr: Corr { re: 0, im: 0 },
-        theta: theta,
-        amp: amp,
-        slot: Slot::Unknown,
+        theta,
+        amp,
+        slot: None,
         nco_phase: 0,
     }
 }
 
 // The slot at position 0 between heads of these angles and magnitudes: 9,296 symbols came.
-fn due(theta: u32, amp: i64, next: u32, last: i64) -> Due
+fn due(theta: u32, amp: i64, next: u32, last: i64) -> Option<WholeSlot>
     ensures { (result ≡ due_between theta amp next last) × DueOk result }
 {
-    let a = head_of(0, theta, amp);
-    let b = head_of(9296, next, last);
-    let h = phase::head(
-        SlotPhase::Holds(Held {
-            head: a,
-            count: 9296,
-        }),
-        b,
-    );
-    let d = h.due;
-    d
+    let full = Some(Held {
+        head: head_of(0, theta, amp),
+        count: 9296,
+    });
+    match phase::head(full, head_of(9296, next, last)) {
+        Ok(x) => x.due,
+        Err(_) => None,
+    }
 }
 
 // A slot between heads of these angles and magnitudes, corrected into places of its length: 0, or why not; 1 where a length is another.
@@ -119,15 +104,14 @@ pub extern "C" fn measure_correct(
 ) -> u8
     ensures { (result ≡ corrected_code (due_between theta amp next last) (fitting table.now store.now (places y.old phi.old gain.old))) × (places y.new phi.new gain.new ≡ corrected_places (due_between theta amp next last) table.now store.now (places y.old phi.old gain.old)) }
 {
-    let d = due(theta, amp, next, last);
     let fit = (table.len() == 1024)
         & (store.len() == 18592)
         & (y.len() == 18592)
         & (phi.len() == 9296)
         & (gain.len() == 9296);
-    match d {
-        Due::Nothing => 6,
-        Due::Slot(w) => {
+    match due(theta, amp, next, last) {
+        None => 6,
+        Some(w) => {
             if fit {
                 correct_all(w, table, store, y, phi, gain);
                 0

@@ -1,4 +1,6 @@
 -- What is true of every slot phase that came from calls, and what its slots hold. Each statement stands above its proof. Assumes nothing.
+use Rattle.std.specs.Prelude.{Option, None, Some, Result, Ok, Err, ⊤}
+use Rattle.phase.specs.declared.Held.{Held}
 use mathlib.Core.Bool.{Bool, true, false, ◌&&◌, ◌||◌}
 use mathlib.Core.List.{List, [], ◌∷◌}
 use mathlib.Core.Path.{◌≡◌, refl, sym, ap, ap₂, subst, ◌∙◌}
@@ -14,15 +16,15 @@ use Rattle.angles.specs.declared.Symbol.{Symbol}
 use Rattle.laws.proofs.Tests.{by_test, if_either, if_both, never}
 use Rattle.laws.specs.Choice.{if_yes, if_no}
 use Rattle.phase.proofs.Laws.{push_taken, head_taken}
-use Rattle.phase.specs.Answers.{held_past, past_end, place_past, push_refusal, push_answer, push_store, head_refusal, head_answer, restart_answer, correct_refusal, correct_answer}
+use Rattle.phase.specs.Answers.{held_past, past_end, place_past, push_refusal, push_answer, push_store, head_refusal, head_answer, headed_phase, restart_answer, correct_refusal, correct_answer}
 use Rattle.phase.specs.Phase.{begun_of, pushed_of, stored_of, whole_of, due_of, symbol_at, corrected_of, stored_in, pushed_in, due_in, counted_in}
 use Rattle.phase.specs.Ranges.{held_in_range, phase_in_range, whole_in_range, HeadOk}
-use Rattle.phase.specs.declared.Due.{Due}
-use Rattle.phase.specs.declared.Due.TheVariants.{Nothing, Slot}
 use Rattle.phase.specs.declared.Headed.{Headed}
-use Rattle.phase.specs.declared.Kept.{Kept}
-use Rattle.phase.specs.declared.SlotPhase.{SlotPhase}
-use Rattle.phase.specs.declared.SlotPhase.TheVariants.{Idle, Holds}
+use Rattle.refusal.proofs.Answered.{answered_both, answered_either}
+use Rattle.refusal.specs.Refusals.{answered, state_after, written as written_by}
+use Rattle.refusal.specs.declared.Refusal.{Refusal}
+use Rattle.refusal.specs.declared.Refusal.TheVariants.{Stores, Table, Arithmetic, Position}
+use Rattle.refusal.specs.declared.Refused.{Refused}
 use Rattle.phase.specs.declared.WholeSlot.{WholeSlot}
 use Rattle.phase_range.proofs.Steps.{whole_in_range_lem}
 use Rattle.phase_range.specs.Calls.{Call, At, at, held, call_of, after_all, pushed_all, AgreeOn}
@@ -32,17 +34,17 @@ use Rattle.phase_range.specs.Slots.{Givable, Filled, nth, Alike}
 use Rattle.sync_heads.specs.declared.Head.{Head}
 
 -- ---- EVERY CALL KEEPS THE INVARIANT, and it implies the ranges
-pub in_range : (s : SlotPhase) → Coherent s → phase_in_range s ≡ true
+pub in_range : (s : Option Held) → Coherent s → phase_in_range s ≡ true
 unfolding phase_in_range held_in_range
-in_range Idle h = refl
-in_range (Holds x) h =
+in_range None h = refl
+in_range (Some x) h =
     rw (le-ltb (2 ^ 60) (nat_abs x.head.amp) h.amp, lt-ltb x.head.at (2 ^ 62) h.place, le-leb x.count 9296 h.count)
 
 -- an accepted symbol
-pub pushed_coherent : (s : SlotPhase) → Coherent s → past_end s ≡ false → Coherent (pushed_of s)
+pub pushed_coherent : (s : Option Held) → Coherent s → past_end s ≡ false → Coherent (pushed_of s)
 unfolding pushed_in past_end counted_in held_past
-pushed_coherent Idle h e = tt
-pushed_coherent (Holds x) h e =
+pushed_coherent None h e = tt
+pushed_coherent (Some x) h e =
     if_either HeldSound (ltb x.count 9296) (record { head = x.head; count = x.count + 1 }) x
     (λ t.
     let l = ltb-true x.count 9296 t in
@@ -59,17 +61,19 @@ begun_coherent h o l = record { amp = o.amp; place = l; count = omega arith; roo
 pub call_coherent : (s : At) (c : Call) → Coherent s.phase → Coherent (call_of s c).phase
 unfolding call_of push_answer head_answer restart_answer
 call_coherent s (push x) h =
-    let n = push_refusal s.phase (length s.store) in
-    if_either (λ (k : Kept). Coherent k.phase) (eqb n 0) (record { refusal = 0; phase = pushed_of s.phase }) (record { refusal = n; phase = s.phase })
-    (λ e. pushed_coherent s.phase h (push_taken s.phase (length s.store) (eqb-true n 0 e)).before_end)
-    (λ e. h)
+    answered_either (λ (x : Result (Option Held) (Refused (Option Held))). Coherent (state_after x)) (push_refusal s.phase (length s.store)) s.phase (pushed_of s.phase)
+    (λ e. pushed_coherent s.phase h (push_taken s.phase (length s.store) e).before_end)
+    (λ why e. h)
 call_coherent s (hear b) h =
-    let n = head_refusal s.phase b in
-    if_either (λ (k : Headed). Coherent k.phase) (eqb n 0) (record { refusal = 0; phase = begun_of b; due = due_of s.phase b }) (record { refusal = n; phase = s.phase; due = Nothing })
-    (λ e. let t = head_taken s.phase b (eqb-true n 0 e) in begun_coherent b t.head t.place)
-    (λ e. h)
+    answered_either (λ (x : Result Headed (Refused (Option Held))). Coherent (headed_phase x)) (head_refusal s.phase b) s.phase
+    (record { phase = begun_of b; due = due_of s.phase b })
+    (λ e. let t = head_taken s.phase b e in begun_coherent b t.head t.place)
+    (λ why e. h)
 call_coherent s restart h =
-    if_both (λ (k : Kept). Coherent k.phase) (phase_in_range s.phase) (record { refusal = 0; phase = Idle }) (record { refusal = 6; phase = s.phase }) tt h
+    if_both (λ (x : Result (Option Held) (Refused (Option Held))). Coherent (state_after x)) (phase_in_range s.phase) (Ok None)
+    (Err (record { why = Arithmetic; state = s.phase }))
+    tt
+    h
 
 all_coherent : (s : At) (cs : List Call) → Coherent s.phase → Coherent (after_all s cs).phase
 unfolding after_all
@@ -77,13 +81,13 @@ all_coherent s [] h = h
 all_coherent s (c ∷ cs) h = all_coherent (call_of s c) cs (call_coherent s c h)
 
 -- of any slot phase that `new` answers and any calls then leave, with any store
-pub calls_keep : (store : List ℤ) (cs : List Call) → let s = (after_all (at Idle store) cs).phase in Coherent s × (phase_in_range s ≡ true)
-calls_keep store cs = let h = all_coherent (at Idle store) cs tt in (h, in_range (after_all (at Idle store) cs).phase h)
+pub calls_keep : (store : List ℤ) (cs : List Call) → let s = (after_all (at None store) cs).phase in Coherent s × (phase_in_range s ≡ true)
+calls_keep store cs = let h = all_coherent (at None store) cs tt in (h, in_range (after_all (at None store) cs).phase h)
 
 -- ---- A RESTART IS NEW
-pub restart_is_new : (s : SlotPhase) → Coherent s → restart_answer s ≡ record { refusal = 0; phase = Idle }
+pub restart_is_new : (s : Option Held) → Coherent s → restart_answer s ≡ Ok None
 unfolding restart_answer
-restart_is_new s h = if_yes (phase_in_range s) (record { refusal = 0; phase = Idle }) (record { refusal = 6; phase = s }) (in_range s h)
+restart_is_new s h = if_yes (phase_in_range s) (Ok None) (Err (record { why = Arithmetic; state = s })) (in_range s h)
 
 -- ---- A SLOT THAT IS DUE CAN BE GIVEN: none of its symbols is refused, and each stands below 2^62
 whole-place : (a h : Head) (j : ℕ) → a.at + 9296 ≤ 2 ^ 62 → j < 9296 → (whole_of a h).head.at + j < 2 ^ 62
@@ -94,46 +98,45 @@ whole_next : (a h : Head) → h.at < 2 ^ 62 → (whole_of a h).next.at < 2 ^ 62
 unfolding whole_of
 whole_next a h l = l
 
-whole_taken : (w : WholeSlot) (j t u : ℕ) → whole_in_range w ≡ true → w.head.at + j < 2 ^ 62 → w.next.at < 2 ^ 62 → j < 9296 → t ≡ 1024 → u ≡ 18592 → correct_refusal w j t u ≡ 0
+whole_taken : (w : WholeSlot) (j t u : ℕ) → whole_in_range w ≡ true → w.head.at + j < 2 ^ 62 → w.next.at < 2 ^ 62 → j < 9296 → t ≡ 1024 → u ≡ 18592 → correct_refusal w j t u ≡ Ok tt
 unfolding correct_refusal place_past
 whole_taken w j t u r p n k et eu =
-    if_yes (eqb u 18592) _ 1 (eq-eqb u 18592 eu) ∙ if_yes (eqb t 1024) _ 3 (eq-eqb t 1024 et) ∙ if_yes (whole_in_range w && ltb j 9296) _ 6 (rw (r, lt-ltb j 9296 k))
-    ∙ if_no (leb (2 ^ 62) (w.head.at + j) || leb (2 ^ 62) w.next.at) 7 0 (rw (lt-leb (2 ^ 62) (w.head.at + j) p, lt-leb (2 ^ 62) w.next.at n))
+    if_yes (eqb u 18592) _ (Err Stores) (eq-eqb u 18592 eu) ∙ if_yes (eqb t 1024) _ (Err Table) (eq-eqb t 1024 et) ∙ if_yes (whole_in_range w && ltb j 9296) _ (Err Arithmetic) (rw (r, lt-ltb j 9296 k))
+    ∙ if_no (leb (2 ^ 62) (w.head.at + j) || leb (2 ^ 62) w.next.at) (Err Position) (Ok tt) (rw (lt-leb (2 ^ 62) (w.head.at + j) p, lt-leb (2 ^ 62) w.next.at n))
 
 whole_given : (a h : Head) (j : ℕ) (table store : List ℤ) → HeadOk a → HeadOk h → h.at < 2 ^ 62 → a.at + 9296 ≤ 2 ^ 62 → j < 9296 → length table ≡ 1024 → length store ≡ 18592 →
     Givable (whole_of a h) j table store
 unfolding correct_answer
 whole_given a h j table store oa oh l room k t u =
     let w = whole_of a h in
-    let n = correct_refusal w j (length table) (length store) in
     let p = whole-place a h j room k in
-    let e : n ≡ 0 = whole_taken w j (length table) (length store) (whole_in_range_lem a h oa oh) p (whole_next a h l) k t u in
-    record { given = if_yes (eqb n 0) _ _ (eq-eqb n 0 e); place = p }
+    let e : correct_refusal w j (length table) (length store) ≡ Ok tt = whole_taken w j (length table) (length store) (whole_in_range_lem a h oa oh) p (whole_next a h l) k t u in
+    record { given = rw e; place = p }
 
 -- the slot of an answer
-abbrev is_slot : Due → Bool
-is_slot Nothing = false
-is_slot (Slot w) = true
+abbrev is_slot : Option WholeSlot → Bool
+is_slot None = false
+is_slot (Some w) = true
 
-abbrev slot_or : WholeSlot → Due → WholeSlot
-slot_or z Nothing = z
-slot_or z (Slot w) = w
+abbrev slot_or : WholeSlot → Option WholeSlot → WholeSlot
+slot_or z None = z
+slot_or z (Some w) = w
 
-pub due_given : (s : SlotPhase) (h : Head) (w : WholeSlot) (j : ℕ) (table store : List ℤ) → Coherent s → head_refusal s h ≡ 0 → due_of s h ≡ Slot w → j < 9296 →
+pub due_given : (s : Option Held) (h : Head) (w : WholeSlot) (j : ℕ) (table store : List ℤ) → Coherent s → head_refusal s h ≡ Ok tt → due_of s h ≡ Some w → j < 9296 →
     length table ≡ 1024 →
     length store ≡ 18592 →
     Givable w j table store
 unfolding due_in
-due_given Idle h w j table store c r d k t u = absurd (never (sym (ap is_slot d)))
-due_given (Holds x) h w j table store c r d k t u =
-    let a = head_taken (Holds x) h r in
+due_given None h w j table store c r d k t u = absurd (never (sym (ap is_slot d)))
+due_given (Some x) h w j table store c r d k t u =
+    let a = head_taken (Some x) h r in
     by_test (eqb x.count 9296)
     (λ e.
     let n = eqb-true x.count 9296 e in
-    let i = sym (if_yes (eqb x.count 9296) (Slot (whole_of x.head h)) Nothing e) ∙ d in
+    let i = sym (if_yes (eqb x.count 9296) (Some (whole_of x.head h)) None e) ∙ d in
     subst (λ (v : WholeSlot). Givable v j table store) (ap (slot_or w) i)
     (whole_given x.head h j table store (record { amp = c.amp }) a.head a.place (omega (arith, c.room, n)) k t u))
-    (λ e. absurd (never (sym (ap is_slot (sym (if_no (eqb x.count 9296) (Slot (whole_of x.head h)) Nothing e) ∙ d)))))
+    (λ e. absurd (never (sym (ap is_slot (sym (if_no (eqb x.count 9296) (Some (whole_of x.head h)) None e) ∙ d)))))
 
 -- ---- WHAT WAS PUSHED: after a head the first 9,296 symbols stand in the store, in order, and the slot is due exactly if there were so many
 -- one symbol: counted and placed up to the 9,296th, then ignored
@@ -142,13 +145,13 @@ taken_step : (h : Head) (c : ℕ) (x : Symbol) (store : List ℤ) → c < 9296 �
 unfolding pushed_in stored_in counted_in
 taken_step h c x store l =
     let t = lt-ltb c 9296 l in
-    ap₂ at (ap Holds (if_yes (ltb c 9296) (record { head = h; count = c + 1 }) (record { head = h; count = c }) t)) (if_yes (ltb c 9296) (set (set store (2 * c) x.i) (2 * c + 1) x.q) store t)
+    ap₂ at (ap Some (if_yes (ltb c 9296) (record { head = h; count = c + 1 }) (record { head = h; count = c }) t)) (if_yes (ltb c 9296) (set (set store (2 * c) x.i) (2 * c + 1) x.q) store t)
 
 ignored_step : (h : Head) (c : ℕ) (x : Symbol) (store : List ℤ) → 9296 ≤ c → at (pushed_of (held h c)) (stored_of (held h c) x.i x.q store) ≡ at (held h c) store
 unfolding pushed_in stored_in counted_in
 ignored_step h c x store l =
     let t = le-ltb c 9296 l in
-    ap₂ at (ap Holds (if_no (ltb c 9296) (record { head = h; count = c + 1 }) (record { head = h; count = c }) t)) (if_no (ltb c 9296) (set (set store (2 * c) x.i) (2 * c + 1) x.q) store t)
+    ap₂ at (ap Some (if_no (ltb c 9296) (record { head = h; count = c + 1 }) (record { head = h; count = c }) t)) (if_no (ltb c 9296) (set (set store (2 * c) x.i) (2 * c + 1) x.q) store t)
 
 -- the two entries that a symbol is written to, and the others
 written : (store : List ℤ) (c : ℕ) (x : Symbol) → 2 * c + 1 < length store → let s = set (set store (2 * c) x.i) (2 * c + 1) x.q in
@@ -224,10 +227,10 @@ agree_held c x a b l ea eb h k p =
     let e : k ≡ 2 * c + 1 = omega (arith, ltb-false k (2 * c) t, eqb-false k (2 * c) u, p) in
     rw e (wa.1 ∙ sym wb.1)))
 
-pub agree_pushed : (s : SlotPhase) (x : Symbol) (a b : List ℤ) → length a ≡ 18592 → length b ≡ 18592 → AgreeOn s a b → AgreeOn (pushed_of s) (stored_of s x.i x.q a) (stored_of s x.i x.q b)
+pub agree_pushed : (s : Option Held) (x : Symbol) (a b : List ℤ) → length a ≡ 18592 → length b ≡ 18592 → AgreeOn s a b → AgreeOn (pushed_of s) (stored_of s x.i x.q a) (stored_of s x.i x.q b)
 unfolding pushed_in stored_in counted_in
-agree_pushed Idle x a b ea eb h = tt
-agree_pushed (Holds y) x a b ea eb h =
+agree_pushed None x a b ea eb h = tt
+agree_pushed (Some y) x a b ea eb h =
     let c = y.count in
     by_test (ltb c 9296)
     (λ t.
@@ -242,42 +245,44 @@ alike_begun : (g : Head) (a b : List ℤ) → length a ≡ 18592 → length b �
 unfolding begun_of
 alike_begun g a b ea eb = record { phases = refl; agree = λ k p. absurd (not-suc-le-zero p); first = ea; second = eb }
 
-alike_idle : (a b : List ℤ) → length a ≡ 18592 → length b ≡ 18592 → Alike (at Idle a) (at Idle b)
+alike_idle : (a b : List ℤ) → length a ≡ 18592 → length b ≡ 18592 → Alike (at None a) (at None b)
 alike_idle a b ea eb = record { phases = refl; agree = tt; first = ea; second = eb }
 
-pub length_stored : (s : SlotPhase) (x : Symbol) (a : List ℤ) → length (stored_of s x.i x.q a) ≡ length a
+pub length_stored : (s : Option Held) (x : Symbol) (a : List ℤ) → length (stored_of s x.i x.q a) ≡ length a
 unfolding stored_in
-length_stored Idle x a = refl
-length_stored (Holds y) x a =
+length_stored None x a = refl
+length_stored (Some y) x a =
     if_both (λ (l : List ℤ). length l ≡ length a) (ltb y.count 9296) (set (set a (2 * y.count) x.i) (2 * y.count + 1) x.q) a
     (length-set (set a (2 * y.count) x.i) (2 * y.count + 1) x.q ∙ length-set a (2 * y.count) x.i)
     refl
 
-alike_push : (s : SlotPhase) (a b : List ℤ) (x : Symbol) → Alike (at s a) (at s b) → Alike (call_of (at s a) (push x)) (call_of (at s b) (push x))
+alike_push : (s : Option Held) (a b : List ℤ) (x : Symbol) → Alike (at s a) (at s b) → Alike (call_of (at s a) (push x)) (call_of (at s b) (push x))
 unfolding call_of push_answer push_store
 alike_push s a b x h =
-    let n = push_refusal s 18592 in
-    let d : Kept = record { refusal = 0; phase = pushed_of s } in
-    let r : Kept = record { refusal = n; phase = s } in
     let sa = stored_of s x.i x.q a in
     let sb = stored_of s x.i x.q b in
     rw (h.first, h.second)
-    (by_test (eqb n 0)
-    (λ t.
-    rw (if_yes (eqb n 0) d r t, if_yes (eqb n 0) sa a t, if_yes (eqb n 0) sb b t)
-    (record { phases = refl; agree = agree_pushed s x a b h.first h.second h.agree; first = length_stored s x a ∙ h.first; second = length_stored s x b ∙ h.second }))
-    (λ t. rw (if_no (eqb n 0) d r t, if_no (eqb n 0) sa a t, if_no (eqb n 0) sb b t) h))
+    (by_refusal (push_refusal s 18592) s (pushed_of s) a sa b sb
+    (record { phases = refl; agree = agree_pushed s x a b h.first h.second h.agree; first = length_stored s x a ∙ h.first; second = length_stored s x b ∙ h.second })
+    h)
+  where
+    -- a symbol that is taken, or one that is refused, by either store
+    by_refusal : (r : Result ⊤ Refusal) (s t : Option Held) (a c b d : List ℤ) → Alike (at t c) (at t d) → Alike (at s a) (at s b) →
+        Alike (at (state_after (answered r s t)) (written_by r a c)) (at (state_after (answered r s t)) (written_by r b d))
+    by_refusal (Ok y) s t a c b d p q = p
+    by_refusal (Err y) s t a c b d p q = q
 
-alike_call : (s : SlotPhase) (a b : List ℤ) (c : Call) → Alike (at s a) (at s b) → Alike (call_of (at s a) c) (call_of (at s b) c)
+alike_call : (s : Option Held) (a b : List ℤ) (c : Call) → Alike (at s a) (at s b) → Alike (call_of (at s a) c) (call_of (at s b) c)
 unfolding call_of head_answer restart_answer
 alike_call s a b (push x) h = alike_push s a b x h
 alike_call s a b (hear g) h =
-    let n = head_refusal s g in
-    if_both (λ (k : Headed). Alike (at k.phase a) (at k.phase b)) (eqb n 0) (record { refusal = 0; phase = begun_of g; due = due_of s g }) (record { refusal = n; phase = s; due = Nothing })
+    answered_both (λ (x : Result Headed (Refused (Option Held))). Alike (at (headed_phase x) a) (at (headed_phase x) b)) (head_refusal s g) s
+    (record { phase = begun_of g; due = due_of s g })
     (alike_begun g a b h.first h.second)
-    h
+    (λ why. h)
 alike_call s a b restart h =
-    if_both (λ (k : Kept). Alike (at k.phase a) (at k.phase b)) (phase_in_range s) (record { refusal = 0; phase = Idle }) (record { refusal = 6; phase = s })
+    if_both (λ (x : Result (Option Held) (Refused (Option Held))). Alike (at (state_after x) a) (at (state_after x) b)) (phase_in_range s) (Ok None)
+    (Err (record { why = Arithmetic; state = s }))
     (alike_idle a b h.first h.second)
     h
 
@@ -285,19 +290,19 @@ alike_all : (s t : At) (cs : List Call) → Alike s t → Alike (after_all s cs)
 unfolding after_all
 alike_all s t [] h = h
 alike_all s t (c ∷ cs) h =
-    let e : at s.phase t.store ≡ t = ap (λ (p : SlotPhase). at p t.store) h.phases in
+    let e : at s.phase t.store ≡ t = ap (λ (p : Option Held). at p t.store) h.phases in
     let g : Alike s (at s.phase t.store) = record { phases = refl; agree = h.agree; first = h.first; second = h.second } in
     alike_all (call_of s c) (call_of t c) cs (subst (λ (v : At). Alike (call_of s c) (call_of v c)) e (alike_call s.phase s.store t.store c g))
 
-pub stores_alike : (a b : List ℤ) (cs : List Call) → length a ≡ 18592 → length b ≡ 18592 → Alike (after_all (at Idle a) cs) (after_all (at Idle b) cs)
-stores_alike a b cs ea eb = alike_all (at Idle a) (at Idle b) cs (alike_idle a b ea eb)
+pub stores_alike : (a b : List ℤ) (cs : List Call) → length a ≡ 18592 → length b ≡ 18592 → Alike (after_all (at None a) cs) (after_all (at None b) cs)
+stores_alike a b cs ea eb = alike_all (at None a) (at None b) cs (alike_idle a b ea eb)
 
-pub corrected_alike : (s : SlotPhase) (h : Head) (w : WholeSlot) (j : ℕ) (table a b : List ℤ) → AgreeOn s a b → due_of s h ≡ Slot w → j < 9296 → corrected_of w table a j ≡ corrected_of w table b j
+pub corrected_alike : (s : Option Held) (h : Head) (w : WholeSlot) (j : ℕ) (table a b : List ℤ) → AgreeOn s a b → due_of s h ≡ Some w → j < 9296 → corrected_of w table a j ≡ corrected_of w table b j
 unfolding due_in corrected_of symbol_at
-corrected_alike Idle h w j table a b g d k = absurd (never (sym (ap is_slot d)))
-corrected_alike (Holds x) h w j table a b g d k =
+corrected_alike None h w j table a b g d k = absurd (never (sym (ap is_slot d)))
+corrected_alike (Some x) h w j table a b g d k =
     by_test (eqb x.count 9296)
     (λ e.
     let n = eqb-true x.count 9296 e in
     rw (g (2 * j) (omega (arith, n, k)), g (2 * j + 1) (omega (arith, n, k))))
-    (λ e. absurd (never (sym (ap is_slot (sym (if_no (eqb x.count 9296) (Slot (whole_of x.head h)) Nothing e) ∙ d)))))
+    (λ e. absurd (never (sym (ap is_slot (sym (if_no (eqb x.count 9296) (Some (whole_of x.head h)) None e) ∙ d)))))

@@ -1,16 +1,15 @@
 -- What is said of a slot: that each of its symbols can be given, and what its store holds.
-use Rattle.std.specs.Prelude.{ℕ, zero, suc, ◌+◌, ◌*◌, ◌^◌, ◌<◌, min, ◌≡◌, List, [], ◌∷◌, ℤ, pos, length, get_or}
+use Rattle.std.specs.Prelude.{ℕ, zero, suc, ◌+◌, ◌*◌, ◌^◌, ◌<◌, min, ◌≡◌, List, [], ◌∷◌, ℤ, pos, length, get_or, Ok}
 use Rattle.angles.specs.declared.Symbol.{Symbol}
 use Rattle.sync_heads.specs.declared.Head.{Head}
 use Rattle.phase.specs.declared.WholeSlot.{WholeSlot}
-use Rattle.phase.specs.declared.Told.TheVariants.{Given}
 use Rattle.phase.specs.Phase.{symbol_at, corrected_of}
 use Rattle.phase.specs.Answers.{correct_answer}
 use Rattle.phase_range.specs.Calls.{At, at, held, pushed_all, AgreeOn}
 
--- symbol j of a slot is given, with a position below 2^62, and the slot comes back
+-- symbol j of a slot is given, with a position below 2^62
 pub record Givable (w : WholeSlot) (j : ℕ) (table store : List ℤ) : Type 0 where
-  pub given : correct_answer w j table store ≡ record { refusal = 0; slot = w; told = Given (corrected_of w table store j) }
+  pub given : correct_answer w j table store ≡ Ok (corrected_of w table store j)
   pub place : w.head.at + j < 2 ^ 62
 
 -- symbol k of a list

@@ -1,7 +1,6 @@
 -- The answers to calls, and what they leave of table and store.
-use Rattle.std.specs.Prelude.{ℕ, List, [], ◌∷◌, ◌≡◌, eqb, ℤ, get_or}
+use Rattle.std.specs.Prelude.{ℕ, List, [], ◌∷◌, ◌≡◌, eqb, ℤ, get_or, None}
 use Rattle.laws.specs.Choice.{when◌then◌else◌}
-use Rattle.phase.specs.declared.SlotPhase.TheVariants.{Idle}
 use Rattle.wire.specs.Wire.{numbers_of, packed_of}
 use Rattle.digest.specs.Digest.{digest_of}
 use Rattle.wire.specs.Blocks.{replayed as replayed_by, left}
@@ -20,7 +19,7 @@ answers p table store =
     ∷ hear_call p
     ∷ nco_restart_call p
     ∷ gain_call p
-    ∷ phase_told 0 Idle
+    ∷ phase_told 0 None
     ∷ restart_call p
     ∷ head_call p
     ∷ due_call p

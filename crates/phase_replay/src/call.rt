@@ -3,7 +3,7 @@ ghost use Rattle.std.specs.Prelude.{◌≡◌, ◌+◌, ◌≤◌, length, drop}
 ghost use Rattle.std.proofs.Math.Seq.{paste};
 ghost use Rattle.phase_replay.specs.Replay.{answer_of, table_of, store_of, answer_bytes, lent, after, Reads};
 
-use crate::calls;
+use crate::{calls, told};
 
 // The answer to a call that writes nothing; 255 is no refusal of document 01.
 fn answer(op: u64, p: &[u64; 24], table: &[i16], store: &[i16]) -> [u64; 24]
@@ -11,8 +11,8 @@ fn answer(op: u64, p: &[u64; 24], table: &[i16], store: &[i16]) -> [u64; 24]
     ensures { result ≡ answer_of op p.now table.now store.now }
 {
     match op {
-        0 => fields::four(0, digest::of_i16(table), 0, 0),
-        1 => fields::four(0, digest::of_i16(store), 0, 0),
+        0 => fields::four(0, digest::of(table), 0, 0),
+        1 => fields::four(0, digest::of(store), 0, 0),
         2 => calls::nco_new(p),
         3 => calls::rotate(p, table),
         4 => calls::hear(p),
@@ -20,9 +20,9 @@ fn answer(op: u64, p: &[u64; 24], table: &[i16], store: &[i16]) -> [u64; 24]
         6 => calls::gain(p),
         7 => phase_wire::told::phase(0, phase::new()),
         8 => calls::restart(p),
-        9 => calls::head(p),
-        10 => calls::due(p),
-        11 => calls::next(p),
+        9 => told::headed(calls::head(p)),
+        10 => told::due(calls::head(p)),
+        11 => told::next(calls::head(p)),
         12 => calls::correct(p, table, store),
         _ => fields::four(255, 0, 0, 0),
     }
@@ -57,5 +57,5 @@ pub(crate) fn replace(buf: &mut [u8], at: usize, table: &mut [i16], store: &mut 
     let p = wire::ranged::numbers(&buf[at..]);
     let a = answered(p[0], &p, table, store);
     let bytes = wire::packed(&a);
-    wire::streams::put(&bytes, buf, at);
+    wire::ranged::put(&bytes, buf, at);
 }

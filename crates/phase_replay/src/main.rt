@@ -18,70 +18,15 @@ use std::io::Write;
 // 256 calls.
 const BLOCK: usize = 49152;
 
-// What a block of input leaves to do.
-#[derive(Clone, Copy)]
-enum Next {
-    Block,
-    Nothing,
-    Short,
-}
-
 // Each call of the first n replaced by its answer.
 fn replay(buf: &mut [u8], n: usize, table: &mut [i16], store: &mut [i16])
     requires { 192 * n ≤ length buf.old }
     ensures { (buf.new ≡ replayed (lent table.old store.old) n buf.old)
         × (lent table.new store.new ≡ left_of (lent table.old store.old) n buf.old) }
 {
-    let mut i: usize = 0;
-    while i < n {
+    for i in 0..n {
         call::replace(buf, 192 * i, table, store);
-        i += 1;
     }
-}
-
-// Reads a block of calls and writes their answers.
-fn block(
-    rt: &HostRuntime,
-    buf: &mut [u8],
-    table: &mut [i16],
-    store: &mut [i16],
-) -> io::Result<Next> {
-    let got = wire::streams::read_full(&mut rt.stdin(), buf)?;
-    let n = got / 192;
-    let whole = 192 * n;
-    replay(buf, n, table, store);
-    rt.stdout().write_all(&buf[..whole])?;
-    if whole < got {
-        Ok(Next::Short)
-    } else if got < buf.len() {
-        Ok(Next::Nothing)
-    } else {
-        Ok(Next::Block)
-    }
-}
-
-// A proved loop has to end, and nothing says that the input does: the turns are counted down from a number that no run uses up.
-fn blocks(
-    rt: &HostRuntime,
-    buf: &mut [u8],
-    table: &mut [i16],
-    store: &mut [i16],
-) -> io::Result<()> {
-    let mut turns = u64::MAX;
-    while 0 < turns {
-        match block(rt, buf, table, store)? {
-            Next::Block => {
-                turns -= 1;
-            }
-            Next::Nothing => {
-                return Ok(());
-            }
-            Next::Short => {
-                return rt.stderr().write_all(b"the input ends within a call\n");
-            }
-        }
-    }
-    Ok(())
 }
 
 // A read or a write that fails ends the replay with its error.
@@ -89,5 +34,9 @@ fn main(rt: HostRuntime) -> io::Result<()> {
     let mut table = [0i16; 1025];
     let mut store = [0i16; 18593];
     let mut buf = [0u8; BLOCK];
-    blocks(&rt, &mut buf, &mut table, &mut store)
+    wire::ranged::replay(&rt, &mut buf, 192, |calls: &mut [u8]| -> io::Result<()> {
+        let n = calls.len() / 192;
+        replay(calls, n, &mut table, &mut store);
+        rt.stdout().write_all(calls)
+    })
 }

@@ -1,18 +1,16 @@
 -- Carrier, heads and slot phase as the numbers of a call hold them.
-use Rattle.std.specs.Prelude.{ℕ, ◌+◌, List, eqb}
+use Rattle.carrier.specs.declared.Steps.{Steps}
+use Rattle.phase.specs.declared.Held.{Held}
+use Rattle.std.specs.Prelude.{ℕ, ◌+◌, List, eqb, Option, None, Some}
 use Rattle.laws.specs.Choice.{when◌then◌else◌}
 use Rattle.sync_heads.specs.declared.Head.{Head}
-use Rattle.carrier.specs.declared.Trail.{Trail}
-use Rattle.carrier.specs.declared.Trail.TheVariants.{Empty, Since}
 use Rattle.carrier.specs.declared.Nco.{Nco}
-use Rattle.phase.specs.declared.SlotPhase.{SlotPhase}
-use Rattle.phase.specs.declared.SlotPhase.TheVariants.{Idle, Holds}
 use Rattle.fields.specs.Fields.{at, at32, signed32, signed64}
 use Rattle.slot_wire.specs.Slots.{word_of, slot_of, corr_of}
 
 -- ---- a carrier, numbers 1 to 6: phase, step, whether there is a trail, its last angle, sum and steps
-unfoldable pub trail_of : List ℕ → Trail
-trail_of p = when eqb (at p 3) 0 then Empty else Since (record { last_ss = at32 p 4; sum = signed64 p 5; steps = at32 p 6 })
+unfoldable pub trail_of : List ℕ → Option Steps
+trail_of p = when eqb (at p 3) 0 then None else Some (record { last_ss = at32 p 4; sum = signed64 p 5; steps = at32 p 6 })
 
 unfoldable pub nco_of : List ℕ → Nco
 nco_of p = record { phase = at32 p 1; freq = signed32 p 2; trail = trail_of p }
@@ -31,5 +29,5 @@ head_of p k =
     }
 
 -- ---- a slot's state, numbers 1 to 12: whether a slot is held, its head, how many symbols came
-unfoldable pub phase_of : List ℕ → SlotPhase
-phase_of p = when eqb (at p 1) 0 then Idle else Holds (record { head = head_of p 2; count = at32 p 12 })
+unfoldable pub phase_of : List ℕ → Option Held
+phase_of p = when eqb (at p 1) 0 then None else Some (record { head = head_of p 2; count = at32 p 12 })

@@ -1,20 +1,18 @@
 -- Answers as 24 numbers: the refusal, the answer's numbers, and zeros behind them. A negative number is 2^64 more.
-use Rattle.std.specs.Prelude.{ℕ, List, [], ◌∷◌, ◌++◌, replicate}
+use Rattle.carrier.specs.declared.Steps.{Steps}
+use Rattle.phase.specs.declared.Held.{Held}
+use Rattle.std.specs.Prelude.{ℕ, List, [], ◌∷◌, ◌++◌, replicate, Option, None, Some}
 use Rattle.sync_heads.specs.declared.Head.{Head}
-use Rattle.carrier.specs.declared.Trail.{Trail}
-use Rattle.carrier.specs.declared.Trail.TheVariants.{Empty, Since}
 use Rattle.carrier.specs.declared.Nco.{Nco}
-use Rattle.phase.specs.declared.SlotPhase.{SlotPhase}
-use Rattle.phase.specs.declared.SlotPhase.TheVariants.{Idle, Holds}
 use Rattle.wire.specs.Wire.{bits}
 use Rattle.fields.specs.Fields.{four_told}
 use Rattle.slot_wire.specs.Slots.{word_number, slot_shown}
 use Rattle.phase_wire.specs.declared.told.Shown.{Shown}
 
 -- ---- what may be absent: whether it is there, and its numbers
-unfoldable pub trail_shown : Trail → Shown
-trail_shown Empty = record { known = 0; first = 0; second = 0; third = 0 }
-trail_shown (Since s) = record { known = 1; first = s.last_ss; second = bits s.sum; third = s.steps }
+unfoldable pub trail_shown : Option Steps → Shown
+trail_shown None = record { known = 0; first = 0; second = 0; third = 0 }
+trail_shown (Some s) = record { known = 1; first = s.last_ss; second = bits s.sum; third = s.steps }
 
 -- ---- a carrier, and two more numbers
 unfoldable pub nco_told : ℕ → Nco → ℕ → ℕ → List ℕ
@@ -45,6 +43,6 @@ head_told refusal h x y z =
     ++ replicate 9 0
 
 -- ---- a slot's state: nothing, or its head and its count
-unfoldable pub phase_told : ℕ → SlotPhase → List ℕ
-phase_told refusal Idle = four_told refusal 0 0 0
-phase_told refusal (Holds x) = head_told refusal x.head x.count 0 0
+unfoldable pub phase_told : ℕ → Option Held → List ℕ
+phase_told refusal None = four_told refusal 0 0 0
+phase_told refusal (Some x) = head_told refusal x.head x.count 0 0

@@ -7,19 +7,21 @@ pub mod told;
 ghost use Rattle.std.specs.Prelude.{◌≡◌};
 ghost use Rattle.phase_wire.specs.Given.{trail_of, nco_of, phase_of};
 
-use carrier::{Nco, Steps, Trail};
-use phase::{Held, SlotPhase};
+use carrier::{Nco, Steps};
+use phase::Held;
+use wire::Field;
 
-fn trail_at(p: &[u64; 24]) -> Trail
+// What may be absent stands behind a number that is 0 where it is: no plainer by a function for this and `phase_at`, which read other fields.
+fn trail_at(p: &[u64; 24]) -> Option<Steps>
     ensures { result ≡ trail_of p.now }
 {
     if p[3] == 0 {
-        Trail::Empty
+        None
     } else {
-        Trail::Since(Steps {
-            last_ss: wire::low32(p[4]),
-            sum: wire::of_bits(p[5]),
-            steps: wire::low32(p[6]),
+        Some(Steps {
+            last_ss: u32::of_bits(p[4]),
+            sum: i64::of_bits(p[5]),
+            steps: u32::of_bits(p[6]),
         })
     }
 }
@@ -28,25 +30,23 @@ fn trail_at(p: &[u64; 24]) -> Trail
 pub fn nco_at(p: &[u64; 24]) -> Nco
     ensures { result ≡ nco_of p.now }
 {
-    let t = trail_at(p);
     Nco {
-        phase: wire::low32(p[1]),
-        freq: wire::signed32(p[2]),
-        trail: t,
+        phase: u32::of_bits(p[1]),
+        freq: i32::of_bits(p[2]),
+        trail: trail_at(p),
     }
 }
 
 // The slot's state of numbers 1 to 12.
-pub fn phase_at(p: &[u64; 24]) -> SlotPhase
+pub fn phase_at(p: &[u64; 24]) -> Option<Held>
     ensures { result ≡ phase_of p.now }
 {
     if p[1] == 0 {
-        SlotPhase::Idle
+        None
     } else {
-        let h = ranged::head_at(p, 2);
-        SlotPhase::Holds(Held {
-            head: h,
-            count: wire::low32(p[12]),
+        Some(Held {
+            head: ranged::head_at(p, 2),
+            count: u32::of_bits(p[12]),
         })
     }
 }

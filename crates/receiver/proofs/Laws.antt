@@ -11,14 +11,14 @@ use lib.IntN.{ℤ, pos, negsuc, nat_abs}
 use lib.ListN.{get_or, length, replicate, set, take}
 use lib.Pow.{pow_mono}
 use lib.Seq.{length-take-le, set_at, take-length, take-suc}
-use Rattle.laws.specs.Choice.{when◌then◌else◌, if_yes, if_no}
 use lib.Signed.{lt_z}
 use Rattle.laws.proofs.Size.{pos_abs}
-use Rattle.laws.proofs.Tests.{by_test, neither, never}
+use Rattle.laws.proofs.Taken.{ok_no}
+use Rattle.laws.proofs.Tests.{neither, never}
+use Rattle.std.specs.Prelude.{Ok}
 use Rattle.demap.specs.Answers.{bad_points, bad_scale}
 use Rattle.receiver.specs.declared.Receiver.{Receiver}
 use Rattle.receiver.specs.Answers.{points_refusal}
-use Rattle.receiver.specs.Ranges.{receiver_in_range}
 
 -- ---- points with zeros behind them
 pub filled_next : (l : List ℤ) (k : ℕ) → k < length l → length l ≤ 64 →
@@ -36,9 +36,6 @@ filled_end l = rw (take-length l)
 few : (bits : ℕ) → bits ≤ 5 → 2 * 2 ^ bits ≤ 64
 few bits h = let p : 2 ^ bits ≤ 2 ^ 5 = pow_mono h in omega arith
 
-no : {X : Type 0} (n : ℕ) → suc n ≡ 0 → X
-no n e = absurd (omega (arith, e))
-
 not_false : (t : Bool) → not t ≡ false → t ≡ true
 not_false true e = refl
 not_false false e = sym e
@@ -47,18 +44,13 @@ most : (k : ℤ) → lt_z k (pos 0) ≡ false → lt_z (pos (2 ^ 24)) k ≡ fals
 most (pos n) d e = ltb-false (2 ^ 24) n e
 most (negsuc n) d e = absurd (never d)
 
-pub points_taken : (r : Receiver) (bits len : ℕ) (k : ℤ) → points_refusal r bits len k ≡ 0 → (len ≤ 64) × (k ≡ pos (nat_abs k)) × (nat_abs k ≤ 2 ^ 24)
+pub points_taken : (r : Receiver) (bits len : ℕ) (k : ℤ) → points_refusal r bits len k ≡ Ok tt → (len ≤ 64) × (k ≡ pos (nat_abs k)) × (nat_abs k ≤ 2 ^ 24)
 unfolding points_refusal
 points_taken r bits len k h =
-    let n6 : ℕ = when receiver_in_range r then 0 else 6 in
-    let n5 : ℕ = when bad_scale k then 5 else n6 in
-    by_test (bad_points bits len)
-    (λ a. no 3 (sym (if_yes (bad_points bits len) 4 n5 a) ∙ h))
-    (λ a. by_test (bad_scale k)
-    (λ b. no 4 (sym (if_yes (bad_scale k) 5 n6 b) ∙ sym (if_no (bad_points bits len) 4 n5 a) ∙ h))
-    (λ b.
-    let p = neither (ltb bits 1) (ltb 5 bits || not (eqb len (2 * 2 ^ bits))) a in
+    let a = ok_no (bad_points bits len) _ _ h in
+    let b = ok_no (bad_scale k) _ _ a.1 in
+    let p = neither (ltb bits 1) (ltb 5 bits || not (eqb len (2 * 2 ^ bits))) a.0 in
     let q = neither (ltb 5 bits) (not (eqb len (2 * 2 ^ bits))) p.1 in
     let m = eqb-true len (2 * 2 ^ bits) (not_false (eqb len (2 * 2 ^ bits)) q.1) in
-    let s = neither (lt_z k (pos 0)) (lt_z (pos (2 ^ 24)) k) b in
-    (omega (arith, m, few bits (ltb-false 5 bits q.0)), pos_abs k s.0, most k s.0 s.1)))
+    let s = neither (lt_z k (pos 0)) (lt_z (pos (2 ^ 24)) k) b.0 in
+    (omega (arith, m, few bits (ltb-false 5 bits q.0)), pos_abs k s.0, most k s.0 s.1)

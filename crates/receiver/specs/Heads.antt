@@ -1,18 +1,17 @@
 -- "Each head to `Nco`, then `SlotPhase`."
-use Rattle.std.specs.Prelude.{ℕ, Bool, true, false, ◌||◌}
+use Rattle.phase.specs.declared.WholeSlot.{WholeSlot}
+use Rattle.std.specs.Prelude.{ℕ, Bool, true, false, ◌||◌, Option, None, Some}
 use Rattle.sync_step.specs.declared.Event.{Event}
 use Rattle.sync_step.specs.declared.Event.TheVariants.{Nothing, Head, Period, Lost}
 use Rattle.sync_step.specs.declared.Events.{Events}
 use Rattle.carrier.specs.Carrier.{heard_of}
-use Rattle.phase.specs.declared.Due.{Due}
-use Rattle.phase.specs.declared.Due.TheVariants.{Nothing as NoSlot, Slot}
 use Rattle.phase.specs.Phase.{begun_of, due_in}
 use Rattle.receiver.specs.declared.Listened.{Listened}
 
 -- a call completes one slot at most (crate receiver_laws); the first is told
-unfoldable pub or_due : Due → Due → Due
-or_due NoSlot d = d
-or_due (Slot w) d = Slot w
+unfoldable pub or_due : Option WholeSlot → Option WholeSlot → Option WholeSlot
+or_due None d = d
+or_due (Some w) d = Some w
 
 unfoldable pub event_heard : ℕ → Listened → Event → Listened
 event_heard n l Nothing = l

@@ -1,5 +1,6 @@
 -- An accepted symbol: "rotate; slot sync; each head to `Nco`, then `SlotPhase`; then the symbol 23 back to `SlotPhase`."
-use Rattle.std.specs.Prelude.{ℕ, ◌+◌, ◌^◌, Bool, false, ◌||◌, List, leb, ltb, ℤ}
+use Rattle.phase.specs.declared.WholeSlot.{WholeSlot}
+use Rattle.std.specs.Prelude.{ℕ, ◌+◌, ◌^◌, Bool, false, ◌||◌, List, leb, ltb, ℤ, Option, None, Some}
 use Rattle.laws.specs.Choice.{when◌then◌else◌}
 use Rattle.angles.specs.declared.Symbol.{Symbol}
 use Rattle.sync_step.specs.declared.Step.{Step}
@@ -7,8 +8,6 @@ use Rattle.sync_step.specs.Step.{place_of}
 use Rattle.sync.specs.declared.SlotSync.{SlotSync}
 use Rattle.sync.specs.Sync.{window_after, stored_of, kept_window, symbol_of}
 use Rattle.carrier.specs.Carrier.{rotated_of, advanced_nco}
-use Rattle.phase.specs.declared.Due.{Due}
-use Rattle.phase.specs.declared.Due.TheVariants.{Nothing as NoSlot, Slot}
 use Rattle.phase.specs.declared.Corrected.{Corrected}
 use Rattle.phase.specs.Phase.{pushed_in, stored_in, symbol_at}
 use Rattle.frame.specs.Stretch.{after_all}
@@ -39,9 +38,9 @@ unfoldable pub next_of : Receiver → ℕ
 next_of r = r.front.sync.run.base + r.front.sync.run.t
 
 -- the last symbol of a slot of n would
-unfoldable pub slot_past : ℕ → Due → Bool
-slot_past n NoSlot = false
-slot_past n (Slot w) = ltb (2 ^ 62) (w.head.at + n)
+unfoldable pub slot_past : ℕ → Option WholeSlot → Bool
+slot_past n None = false
+slot_past n (Some w) = ltb (2 ^ 62) (w.head.at + n)
 
 module _ (n : ℕ) (r : Receiver) (x : Input) (l : Lent) where
   -- "rotate"
@@ -61,7 +60,7 @@ module _ (n : ℕ) (r : Receiver) (x : Input) (l : Lent) where
 
   -- "each head to `Nco`, then `SlotPhase`"; before that it "uses its phase, then advances it"
   unfoldable pub heads : Listened
-  heads = listened n (record { nco = advanced_nco r.front.nco; phase = r.front.phase; due = NoSlot }) synced.events
+  heads = listened n (record { nco = advanced_nco r.front.nco; phase = r.front.phase; due = None }) synced.events
 
   -- the symbols of the slot that a head completes; its store is read before this call's symbol is written
   unfoldable pub slot : List Corrected

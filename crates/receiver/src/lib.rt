@@ -11,13 +11,13 @@ ghost use Rattle.std.specs.Prelude.{◌≡◌};
 ghost use Rattle.receiver.specs.Answers.{new_answer, new_acc, points_answer, taps_answer, open_answer, end_answer, restart_answer, restart_acc};
 
 use carrier::Nco;
-use eq::TapsFrom;
 use frame::Back;
-use phase::{Due, SlotPhase};
+use phase::{Held, WholeSlot};
 use receiver_slot::{Points, Runs};
+use refusal::{Refusal, Refused};
 use sums::Sums;
 use sync::SlotSync;
-use sync_heads::Record;
+use sync_heads::FrameHead;
 use sync_step::Events;
 
 // What a loss or a restart keeps.
@@ -26,9 +26,9 @@ pub struct Kept {
     pub phase: u32,
     pub freq: i32,
     pub taps: [i16; 22],
-    pub from: TapsFrom,
+    pub from: Option<u32>,
     pub points: Points,
-    pub last: Record,
+    pub last: Option<FrameHead>,
 }
 
 // What every symbol moves.
@@ -36,7 +36,7 @@ pub struct Kept {
 pub struct Front {
     pub nco: Nco,
     pub sync: SlotSync,
-    pub phase: SlotPhase,
+    pub phase: Option<Held>,
 }
 
 // The alignment moves with each corrected slot, the points with a load.
@@ -51,137 +51,88 @@ pub struct Receiver {
 #[derive(Clone, Copy)]
 pub struct Listened {
     pub nco: Nco,
-    pub phase: SlotPhase,
-    pub due: Due,
+    pub phase: Option<Held>,
+    pub due: Option<WholeSlot>,
 }
 
-// What a symbol answers.
+// What an accepted symbol answers.
 #[derive(Clone, Copy)]
 pub struct Answer {
-    pub refusal: u8,
     pub receiver: Receiver,
     pub events: Events,
     pub runs: Runs,
 }
 
-// What a new receiver, a load, a restart and an opening answer.
-#[derive(Clone, Copy)]
-pub struct Answered {
-    pub refusal: u8,
-    pub receiver: Receiver,
-}
-
-// What an end of sums answers; `ended`: sums were open, and these are they.
+// What an end of sums answers: the sums, if there were open ones.
 #[derive(Clone, Copy)]
 pub struct Ended {
-    pub refusal: u8,
     pub receiver: Receiver,
-    pub ended: bool,
-    pub sums: Sums,
+    pub sums: Option<Sums>,
 }
 
 // A receiver whose first symbol stands at a position, with a carrier step.
-pub fn new(at: u64, step: i32, acc: &mut [u32]) -> Answered
+pub fn new(at: u64, step: i32, acc: &mut [u32]) -> Result<Receiver, Refused<Receiver>>
     ensures { (result ≡ new_answer at step acc.old) × (acc.new ≡ new_acc acc.old) }
 {
     let r = plain::started(at, starts::new_kept(step));
-    if acc.len() == 9296 {
-        sync::plain::clear(acc);
-        Answered {
-            refusal: 0,
-            receiver: r,
-        }
-    } else {
-        Answered {
-            refusal: 1,
-            receiver: r,
-        }
+    if acc.len() != 9296 {
+        return Err(Refused {
+            why: Refusal::Stores,
+            state: r,
+        });
     }
+    sync::plain::clear(acc);
+    Ok(r)
 }
 
 // 2^bits points as pairs, in the order of their labels, and the scale of the soft bits.
-pub fn load_points(r: Receiver, bits: u8, points: &[i16], k: i64) -> Answered
+pub fn load_points(
+    r: Receiver,
+    bits: u8,
+    points: &[i16],
+    k: i64,
+) -> Result<Receiver, Refused<Receiver>>
     ensures { result ≡ points_answer r bits points.now k }
 {
-    let n = refusals::load_points(r, bits, points.len(), k);
-    if n == 0 {
-        Answered {
-            refusal: 0,
-            receiver: loads::with_points(r, loads::loaded_points(bits, points, k)),
-        }
-    } else {
-        Answered {
-            refusal: n,
-            receiver: r,
-        }
+    match refusals::load_points(r, bits, points.len(), k) {
+        Ok(()) => Ok(loads::with_points(r, loads::loaded_points(bits, points, k))),
+        Err(why) => Err(Refused { why, state: r }),
     }
 }
 
 // Taps that were solved from a frame's sums.
-pub fn load_taps(r: Receiver, taps: [i16; 22], frame: u32) -> Answered
+pub fn load_taps(r: Receiver, taps: [i16; 22], frame: u32) -> Result<Receiver, Refused<Receiver>>
     ensures { result ≡ taps_answer r taps frame }
 {
-    let e = r.back.eq;
-    loads::eq_answer(r, eq::plain::loaded(e, taps, frame))
+    loads::eq_answer(r, eq::plain::loaded(r.back.eq, taps, frame))
 }
 
 // The receiver started anew at a position, not before the next symbol's, with its kept values.
-pub fn restart(r: Receiver, at: u64, acc: &mut [u32]) -> Answered
+pub fn restart(r: Receiver, at: u64, acc: &mut [u32]) -> Result<Receiver, Refused<Receiver>>
     ensures { (result ≡ restart_answer r at acc.old) × (acc.new ≡ restart_acc r at acc.old) }
 {
-    let n = refusals::restart(r, at, acc.len());
-    if n == 0 {
-        sync::plain::clear(acc);
-        Answered {
-            refusal: 0,
-            receiver: plain::started(at, plain::kept_of(r)),
+    match refusals::restart(r, at, acc.len()) {
+        Ok(()) => {
+            sync::plain::clear(acc);
+            Ok(plain::started(at, plain::kept_of(r)))
         }
-    } else {
-        Answered {
-            refusal: n,
-            receiver: r,
-        }
+        Err(why) => Err(Refused { why, state: r }),
     }
 }
 
 // Sums of a frame, from nothing; open ones are dropped.
-pub fn open_sums(r: Receiver, frame: u32) -> Answered
+pub fn open_sums(r: Receiver, frame: u32) -> Result<Receiver, Refused<Receiver>>
     ensures { result ≡ open_answer r frame }
 {
-    let e = r.back.eq;
-    loads::eq_answer(r, eq::plain::with_sums(e, true, sums::new(frame)))
+    loads::eq_answer(r, eq::plain::with_sums(r.back.eq, true, sums::new(frame)))
 }
 
 // The open sums, which are then closed.
-pub fn end_sums(r: Receiver) -> Ended
+pub fn end_sums(r: Receiver) -> Result<Ended, Refused<Receiver>>
     ensures { result ≡ end_answer r }
 {
-    let none = sums::new(0);
-    if plain::receiver_within(r) {
-        let e = r.back.eq;
-        let opened = e.opened;
-        let s = e.sums;
-        if opened {
-            Ended {
-                refusal: 0,
-                receiver: loads::with_eq(r, eq::plain::with_sums(e, false, none)),
-                ended: true,
-                sums: s,
-            }
-        } else {
-            Ended {
-                refusal: 0,
-                receiver: r,
-                ended: false,
-                sums: none,
-            }
-        }
-    } else {
-        Ended {
-            refusal: 6,
-            receiver: r,
-            ended: false,
-            sums: none,
-        }
+    match plain::range_refusal(r) {
+        Ok(()) => Ok(loads::ended(r)),
+        Err(why) => Err(Refused { why, state: r }),
     }
 }

@@ -1,11 +1,12 @@
 // What loads and training calls leave.
 ghost use Rattle.std.specs.Prelude.{◌≡◌, ◌++◌, ◌-◌, ◌≤◌, ◌^◌, pos, nat_abs, length, replicate};
-ghost use Rattle.receiver.specs.Answers.{loaded_points, with_points, with_eq, eq_answer};
+ghost use Rattle.receiver.specs.Answers.{loaded_points, with_points, with_eq, eq_answer, ended_of};
 
-use crate::{Answered, Receiver, plain};
+use crate::{Ended, Receiver, plain};
 use eq::Equaliser;
 use frame::Back;
 use receiver_slot::Points;
+use refusal::Refused;
 
 // The points with zeros behind them.
 fn filled(points: &[i16]) -> [i16; 64]
@@ -13,10 +14,8 @@ fn filled(points: &[i16]) -> [i16; 64]
     ensures { result ≡ points.now ++ replicate (64 - length points.now) (pos 0) }
 {
     let mut all = [0i16; 64];
-    let mut k: usize = 0;
-    while k < points.len() {
+    for k in 0..points.len() {
         all[k] = points[k];
-        k += 1;
     }
     all
 }
@@ -26,56 +25,51 @@ pub(crate) fn loaded_points(bits: u8, points: &[i16], k: i64) -> Points
     ensures { result ≡ loaded_points bits points.now k }
 {
     Points {
-        bits: bits,
+        bits,
         points: filled(points),
         k: k as u32,
     }
 }
 
-pub(crate) fn with_points(r: Receiver, p: Points) -> Receiver
-    ensures { result ≡ with_points r p }
+pub(crate) fn with_points(r: Receiver, points: Points) -> Receiver
+    ensures { result ≡ with_points r points }
 {
-    let a = r.front;
-    let b = r.back;
-    Receiver {
-        front: a,
-        back: b,
-        points: p,
-    }
+    Receiver { points, ..r }
 }
 
-pub(crate) fn with_eq(r: Receiver, e: Equaliser) -> Receiver
-    ensures { result ≡ with_eq r e }
+pub(crate) fn with_eq(r: Receiver, eq: Equaliser) -> Receiver
+    ensures { result ≡ with_eq r eq }
 {
-    let a = r.front;
-    let b = r.back;
-    let w = b.metas;
-    let l = b.last;
-    let p = r.points;
     Receiver {
-        front: a,
-        back: Back {
-            eq: e,
-            metas: w,
-            last: l,
-        },
-        points: p,
+        back: Back { eq, ..r.back },
+        ..r
     }
 }
 
 // The receiver with this equaliser, if its numbers are in range.
-pub(crate) fn eq_answer(r: Receiver, e: Equaliser) -> Answered
+pub(crate) fn eq_answer(r: Receiver, e: Equaliser) -> Result<Receiver, Refused<Receiver>>
     ensures { result ≡ eq_answer r e }
 {
-    if plain::receiver_within(r) {
-        Answered {
-            refusal: 0,
-            receiver: with_eq(r, e),
+    match plain::range_refusal(r) {
+        Ok(()) => Ok(with_eq(r, e)),
+        Err(why) => Err(Refused { why, state: r }),
+    }
+}
+
+// The receiver without sums, and those that it had.
+pub(crate) fn ended(r: Receiver) -> Ended
+    ensures { result ≡ ended_of r }
+{
+    let e = r.back.eq;
+    if e.opened {
+        Ended {
+            receiver: with_eq(r, eq::plain::with_sums(e, false, sums::new(0))),
+            sums: Some(e.sums),
         }
     } else {
-        Answered {
-            refusal: 6,
+        Ended {
             receiver: r,
+            sums: None,
         }
     }
 }

@@ -2,9 +2,10 @@
 ghost use Rattle.std.specs.Prelude.{◌≡◌};
 ghost use Rattle.receiver.specs.Ranges.{front_within, receiver_in_range};
 ghost use Rattle.receiver.specs.Started.{started, kept_of};
+ghost use Rattle.receiver.specs.Answers.{range_refusal};
 
 use crate::{Front, Kept, Receiver};
-use phase::SlotPhase;
+use refusal::Refusal;
 
 fn front_within(a: Front) -> bool
     ensures { result ≡ front_within a }
@@ -32,6 +33,16 @@ pub fn receiver_within(r: Receiver) -> bool
         & receiver_bounds::plain::points_within(p)
 }
 
+pub fn range_refusal(r: Receiver) -> Result<(), Refusal>
+    ensures { result ≡ range_refusal r }
+{
+    if receiver_within(r) {
+        Ok(())
+    } else {
+        Err(Refusal::Arithmetic)
+    }
+}
+
 // A receiver whose next symbol stands at this position.
 pub fn started(at: u64, k: Kept) -> Receiver
     ensures { result ≡ started at k }
@@ -45,7 +56,7 @@ pub fn started(at: u64, k: Kept) -> Receiver
         front: Front {
             nco: carrier::plain::started(k.phase, freq),
             sync: sync::plain::started(at, last),
-            phase: SlotPhase::Idle,
+            phase: None,
         },
         back: frame::plain::started(eq::plain::started(taps, from)),
         points: points,

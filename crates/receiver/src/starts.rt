@@ -4,7 +4,6 @@ ghost use Rattle.receiver.specs.Started.{no_points, new_kept};
 
 use crate::Kept;
 use receiver_slot::Points;
-use sync_heads::Record;
 
 fn no_points() -> Points
     ensures { result ≡ no_points }
@@ -28,6 +27,6 @@ pub(crate) fn new_kept(step: i32) -> Kept
         taps: taps,
         from: from,
         points: no_points(),
-        last: Record::Never,
+        last: None,
     }
 }

@@ -1,4 +1,7 @@
 -- Parts whose numbers are in range are ready for a symbol, and for the slot that it may complete. Assumes nothing.
+use Rattle.std.specs.Prelude.{Option, None, Some}
+use Rattle.carrier.specs.declared.Steps.{Steps}
+use Rattle.phase.specs.declared.Held.{Held}
 use Prim.Native.Nat.{ℕ, zero, suc, ◌+◌, ◌-◌, ◌^◌, ◌≤◌}
 use mathlib.Core.Bool.{Bool, true, false, ◌&&◌, ◌||◌}
 use mathlib.Core.List.{List, [], ◌∷◌}
@@ -21,19 +24,13 @@ use Rattle.sync_heads.specs.Ranges.{both_in_range, corr_in_range, course_in_rang
 use Rattle.sync_step.specs.declared.Run.{Run}
 use Rattle.sync_step.specs.Ranges.{run_in_range}
 use Rattle.carrier.specs.declared.Nco.{Nco}
-use Rattle.carrier.specs.declared.Trail.{Trail}
-use Rattle.carrier.specs.declared.Trail.TheVariants.{Empty, Since}
 use Rattle.carrier.specs.Ranges.{nco_in_range, steps_in_range, trail_in_range}
-use Rattle.phase.specs.declared.SlotPhase.{SlotPhase}
-use Rattle.phase.specs.declared.SlotPhase.TheVariants.{Idle, Holds}
 use Rattle.phase.specs.Ranges.{HeadOk, PhaseOk}
 use Rattle.sums.specs.declared.Sums.{Sums}
 use Rattle.eq_train.specs.Ranges.{upper_in_range}
 use Rattle.eq_train.specs.Train.{nth}
 use Rattle.eq_train.proofs.Laws.{upper_sizes}
 use Rattle.eq.specs.declared.Equaliser.{Equaliser}
-use Rattle.frame_line.specs.declared.LastAt.{LastAt}
-use Rattle.frame_line.specs.declared.LastAt.TheVariants.{Never, At}
 use Rattle.frame_line.specs.declared.Meta.{Meta}
 use Rattle.frame_line.specs.declared.Metas.{Metas}
 use Rattle.frame_line.specs.Ranges.{last_in_range}
@@ -51,10 +48,10 @@ sum_wide : (z : ℤ) → le_z z (pos 126701535114) ≡ true → le_z z (pos 1267
 sum_wide (pos n) e = le-leb n 126701535173 (omega (arith, leb-true n 126701535114 e))
 sum_wide (negsuc n) e = refl
 
-trail_wide : (t : Trail) → trail_within t ≡ true → trail_in_range t ≡ true
+trail_wide : (t : Option Steps) → trail_within t ≡ true → trail_in_range t ≡ true
 unfolding trail_within steps_within trail_in_range steps_in_range
-trail_wide Empty e = refl
-trail_wide (Since s) e =
+trail_wide None e = refl
+trail_wide (Some s) e =
     let a = and_both (leb s.steps 59 && le_z (minus 126701535232) s.sum && le_z s.sum (pos 126701535114)) (even s.last_ss) e in
     let b = and_both (leb s.steps 59 && le_z (minus 126701535232) s.sum) (le_z s.sum (pos 126701535114)) a.0 in
     and_yes _ _ b.0 (sum_wide s.sum b.1)
@@ -115,10 +112,10 @@ head_ready h e =
     let d = and_both w (le_z (pos 0) h.amp) c.0 in
     record { amp = amp_small h.amp d.1 c.1 }
 
-pub phase_ready : (s : SlotPhase) → phase_within s ≡ true → PhaseOk s
+pub phase_ready : (s : Option Held) → phase_within s ≡ true → PhaseOk s
 unfolding phase_within held_within
-phase_ready Idle e = tt
-phase_ready (Holds x) e = head_ready x.head (and_both (head_within x.head) (within 1 9296 x.count) e).0
+phase_ready None e = tt
+phase_ready (Some x) e = head_ready x.head (and_both (head_within x.head) (within 1 9296 x.count) e).0
 
 -- ---- the alignment
 all_size : (b : ℕ) (l : List ℤ) (k : ℕ) → all_within b l ≡ true → nat_abs (nth l k) ≤ b
@@ -174,10 +171,10 @@ metas_ready w e =
     five (eqb-true w.count 5 u.0) (meta_place 0 w.first u.1) (meta_place 1 w.second s.1) (meta_place 2 w.third r.1)
     (meta_place 3 w.fourth q.1) (meta_place 4 w.fifth p.1))
 
-last_ready : (l : LastAt) → last_within l ≡ true → last_in_range l ≡ true
+last_ready : (l : Option ℕ) → last_within l ≡ true → last_in_range l ≡ true
 unfolding last_within last_in_range within
-last_ready Never e = refl
-last_ready (At a) e = lt-ltb a (2 ^ 62) (omega (arith, leb-true a (2 ^ 62 - 25) (and_both (leb 55775 a) (leb a (2 ^ 62 - 25)) e).1))
+last_ready None e = refl
+last_ready (Some a) e = lt-ltb a (2 ^ 62) (omega (arith, leb-true a (2 ^ 62 - 25) (and_both (leb 55775 a) (leb a (2 ^ 62 - 25)) e).1))
 
 pub back_ready : (b : Back) → back_within b ≡ true → BackOk b
 unfolding back_within eq_within

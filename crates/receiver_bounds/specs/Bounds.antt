@@ -1,5 +1,5 @@
 -- The ranges of docs/RANGES.md, "Receiver": what receiver calls can leave in each number of a receiver's parts.
-use Rattle.std.specs.Prelude.{ℕ, ◌+◌, ◌-◌, ◌%◌, ◌^◌, Bool, true, ◌&&◌, ◌||◌, List, [], ◌∷◌, eqb, leb, ℤ, pos, nat_abs}
+use Rattle.std.specs.Prelude.{ℕ, ◌+◌, ◌-◌, ◌%◌, ◌^◌, Bool, true, ◌&&◌, ◌||◌, List, [], ◌∷◌, eqb, leb, ℤ, pos, nat_abs, Option, None, Some}
 use Rattle.std.specs.Int.Signed.{le_z}
 use Rattle.laws.specs.Choice.{when◌then◌else◌, minus}
 use Rattle.sync_corr.specs.declared.Corr.{Corr}
@@ -13,18 +13,12 @@ use Rattle.sync_heads.specs.Ranges.{slot_in_range, course_in_range}
 use Rattle.sync_step.specs.declared.Run.{Run}
 use Rattle.carrier.specs.declared.Nco.{Nco}
 use Rattle.carrier.specs.declared.Steps.{Steps}
-use Rattle.carrier.specs.declared.Trail.{Trail}
-use Rattle.carrier.specs.declared.Trail.TheVariants.{Empty, Since}
 use Rattle.phase.specs.declared.Held.{Held}
-use Rattle.phase.specs.declared.SlotPhase.{SlotPhase}
-use Rattle.phase.specs.declared.SlotPhase.TheVariants.{Idle, Holds}
 use Rattle.sums.specs.declared.Sums.{Sums}
 use Rattle.eq_train.specs.Ranges.{upper_in_range}
 use Rattle.eq.specs.declared.Equaliser.{Equaliser}
 use Rattle.frame_line.specs.declared.Meta.{Meta}
 use Rattle.frame_line.specs.declared.Metas.{Metas}
-use Rattle.frame_line.specs.declared.LastAt.{LastAt}
-use Rattle.frame_line.specs.declared.LastAt.TheVariants.{Never, At}
 use Rattle.frame.specs.declared.Back.{Back}
 use Rattle.receiver_slot.specs.declared.Points.{Points}
 
@@ -44,9 +38,9 @@ even a = eqb (a % 2) 0
 unfoldable pub steps_within : Steps → Bool
 steps_within s = leb s.steps 59 && le_z (minus 126701535232) s.sum && le_z s.sum (pos 126701535114) && even s.last_ss
 
-unfoldable pub trail_within : Trail → Bool
-trail_within Empty = true
-trail_within (Since s) = steps_within s
+unfoldable pub trail_within : Option Steps → Bool
+trail_within None = true
+trail_within (Some s) = steps_within s
 
 -- phase and step may be any
 unfoldable pub nco_within : Nco → Bool
@@ -82,9 +76,9 @@ head_within h =
 unfoldable pub held_within : Held → Bool
 held_within x = head_within x.head && within 1 9296 x.count
 
-unfoldable pub phase_within : SlotPhase → Bool
-phase_within Idle = true
-phase_within (Holds x) = held_within x
+unfoldable pub phase_within : Option Held → Bool
+phase_within None = true
+phase_within (Some x) = held_within x
 
 -- ---- equaliser: slots come whole, so the line is empty or full. A slot trains 24 times, a stretch's first 19 times, and not at all where that would
 -- pass 4,194,304: sums count 4,194,288 at most. References are of size 724
@@ -104,9 +98,9 @@ metas_within w =
     || (eqb w.count 5 && meta_within 0 w.first && meta_within 1 w.second && meta_within 2 w.third && meta_within 3 w.fourth
     && meta_within 4 w.fifth)
 
-unfoldable pub last_within : LastAt → Bool
-last_within Never = true
-last_within (At a) = within 55775 (2 ^ 62 - 25) a
+unfoldable pub last_within : Option ℕ → Bool
+last_within None = true
+last_within (Some a) = within 55775 (2 ^ 62 - 25) a
 
 unfoldable pub back_within : Back → Bool
 back_within b = eq_within b.eq && metas_within b.metas && last_within b.last

@@ -1,12 +1,13 @@
-// What the crates above share and needs nothing of its caller.
-ghost use Rattle.std.specs.Prelude.{◌≡◌, ◌<◌, leb, nat_abs, length};
+// What the crates above share and needs nothing of its caller. Each test has bounds of its own beside those of the stage's crate, field by field: one
+// function for both would take every bound as an argument and be no plainer.
+ghost use Rattle.std.specs.Prelude.{◌≡◌, ◌<◌, leb, nat_abs};
 ghost use Rattle.receiver_bounds.specs.Bounds.{within, all_within, even as Bounds·even, steps_within, nco_within, corr_within, first_within, stage_within, tally_within, run_within, head_within, held_within, phase_within, sums_within, eq_within, meta_within, metas_within, last_within, back_within, points_within};
 
-use carrier::{Nco, Steps, Trail};
+use carrier::{Nco, Steps};
 use eq::Equaliser;
 use frame::Back;
-use frame_line::{LastAt, Meta, Metas};
-use phase::{Held, SlotPhase};
+use frame_line::{Meta, Metas};
+use phase::Held;
 use receiver_slot::Points;
 use sums::Sums;
 use sync_corr::Corr;
@@ -35,23 +36,18 @@ fn steps_within(s: Steps) -> bool
 pub fn nco_within(n: Nco) -> bool
     ensures { result ≡ nco_within n }
 {
-    let t = n.trail;
-    match t {
-        Trail::Empty => true,
-        Trail::Since(s) => steps_within(s),
+    match n.trail {
+        None => true,
+        Some(s) => steps_within(s),
     }
 }
 
 fn right_within(p: &[i64; 22]) -> bool
-    requires { length p.now ≡ 22 }
     ensures { result ≡ all_within 199010845458432 p.now }
 {
     let mut all = true;
-    let mut k: usize = 0;
-    while k < 22 {
-        let v = p[k];
+    for &v in p {
         all = all & ((-199010845458432 <= v) & (v <= 199010845458432));
-        k += 1;
     }
     all
 }
@@ -71,10 +67,7 @@ fn corr_within(c: Corr) -> bool
 fn first_within(z: Reading) -> bool
     ensures { result ≡ first_within z }
 {
-    let b = z.both;
-    let f = b.f;
-    let s = b.s;
-    between(37184, 4611686018427387880, z.at) & corr_within(f) & corr_within(s)
+    between(37184, 4611686018427387880, z.at) & corr_within(z.both.f) & corr_within(z.both.s)
 }
 
 fn stage_within(k: Stage) -> bool
@@ -83,10 +76,7 @@ fn stage_within(k: Stage) -> bool
     match k {
         Stage::Before => true,
         Stage::First(z) => first_within(z),
-        Stage::Known(p) => {
-            let l = p.last;
-            corr_within(l)
-        }
+        Stage::Known(p) => corr_within(p.last),
     }
 }
 
@@ -99,28 +89,21 @@ pub fn tally_within(t: Tally) -> bool
 pub fn run_within(r: Run) -> bool
     ensures { result ≡ run_within r }
 {
-    let y = r.tally;
-    let l = r.lock;
-    let k = r.stage;
-    let c = r.course;
     (r.t <= 4611686018427387904)
-        & tally_within(y)
-        & sync_lock::plain::lock_in_range(l)
-        & stage_within(k)
-        & sync_heads::plain::course_in_range(c)
+        & tally_within(r.tally)
+        & sync_lock::plain::lock_in_range(r.lock)
+        & stage_within(r.stage)
+        & sync_heads::plain::course_in_range(r.course)
 }
 
 fn head_within(h: Head) -> bool
     ensures { result ≡ head_within h }
 {
-    let c = h.corr;
-    let a = h.amp;
-    let s = h.slot;
     between(46480, 4611686018427387880, h.at)
-        & corr_within(c)
-        & (0 <= a)
-        & (a <= 179130)
-        & sync_heads::plain::slot_in_range(s)
+        & corr_within(h.corr)
+        & (0 <= h.amp)
+        & (h.amp <= 179130)
+        & sync_heads::plain::slot_in_range(h.slot)
         & (h.nco_phase == 0)
         & even(h.theta)
 }
@@ -128,35 +111,27 @@ fn head_within(h: Head) -> bool
 fn held_within(x: Held) -> bool
     ensures { result ≡ held_within x }
 {
-    let h = x.head;
-    head_within(h) & between(1, 9296, x.count as u64)
+    head_within(x.head) & between(1, 9296, x.count as u64)
 }
 
-pub fn phase_within(s: SlotPhase) -> bool
+pub fn phase_within(s: Option<Held>) -> bool
     ensures { result ≡ phase_within s }
 {
-    match s {
-        SlotPhase::Idle => true,
-        SlotPhase::Holds(x) => held_within(x),
-    }
+    s.is_none_or(held_within)
 }
 
 fn sums_within(s: Sums) -> bool
     ensures { result ≡ sums_within s }
 {
-    let r = s.r;
-    let p = s.p;
-    (s.count <= 4194288) & eq_train::plain::upper_in_range(4194288, &r) & right_within(&p)
+    (s.count <= 4194288) & eq_train::plain::upper_in_range(4194288, &s.r) & right_within(&s.p)
 }
 
 fn eq_within(e: Equaliser) -> bool
     ensures { result ≡ eq_within e }
 {
     let whole = (e.filled == 0) | (e.filled == 11);
-    let opened = e.opened;
-    if opened {
-        let s = e.sums;
-        whole & sums_within(s)
+    if e.opened {
+        whole & sums_within(e.sums)
     } else {
         whole
     }
@@ -167,45 +142,36 @@ fn meta_within(k: u16, m: Meta) -> bool
     requires { k < 5 }
     ensures { result ≡ meta_within k m }
 {
-    let s = m.slot;
     (m.j == 9291 + k)
         & between(55771 + (k as u64), 4611686018427387875 + (k as u64), m.at)
-        & sync_heads::plain::slot_in_range(s)
+        & sync_heads::plain::slot_in_range(m.slot)
 }
 
 fn metas_within(w: Metas) -> bool
     ensures { result ≡ metas_within w }
 {
-    let a = w.first;
-    let b = w.second;
-    let c = w.third;
-    let d = w.fourth;
-    let e = w.fifth;
     (w.count == 0)
         | ((w.count == 5)
-            & meta_within(0, a)
-            & meta_within(1, b)
-            & meta_within(2, c)
-            & meta_within(3, d)
-            & meta_within(4, e))
+            & meta_within(0, w.first)
+            & meta_within(1, w.second)
+            & meta_within(2, w.third)
+            & meta_within(3, w.fourth)
+            & meta_within(4, w.fifth))
 }
 
-fn last_within(l: LastAt) -> bool
+fn last_within(l: Option<u64>) -> bool
     ensures { result ≡ last_within l }
 {
     match l {
-        LastAt::Never => true,
-        LastAt::At(a) => between(55775, 4611686018427387879, a),
+        None => true,
+        Some(a) => between(55775, 4611686018427387879, a),
     }
 }
 
 pub fn back_within(b: Back) -> bool
     ensures { result ≡ back_within b }
 {
-    let e = b.eq;
-    let w = b.metas;
-    let l = b.last;
-    eq_within(e) & metas_within(w) & last_within(l)
+    eq_within(b.eq) & metas_within(b.metas) & last_within(b.last)
 }
 
 pub fn points_within(p: Points) -> bool

@@ -1,14 +1,22 @@
 -- What each call that takes no store answers and leaves, by the definitions of receiver.
-use Rattle.std.specs.Prelude.{ℕ, zero, suc, List, take}
+use Rattle.std.specs.Prelude.{ℕ, zero, suc, Bool, true, false, List, take, Option, None, Some, Result, Ok, Err}
+use Rattle.refusal.specs.declared.Refusal.{Refusal}
+use Rattle.refusal.specs.declared.Refused.{Refused}
+use Rattle.refusal.specs.Refusals.{number_of, state_after}
+use Rattle.sums.specs.declared.Sums.{Sums}
+use Rattle.sums.specs.Sums.{empty_sums}
 use Rattle.sync_step.specs.declared.Event.{Event}
 use Rattle.sync_step.specs.declared.Events.{Events}
-use Rattle.receiver.specs.declared.Answered.{Answered}
-use Rattle.receiver.specs.Answers.{points_answer, with_eq, taps_answer, open_answer, end_answer}
+use Rattle.sync_step.specs.Events.{no_events}
+use Rattle.receiver_slot.specs.declared.Runs.{Runs}
+use Rattle.receiver.specs.declared.Receiver.{Receiver}
+use Rattle.receiver.specs.Answers.{code_in, no_runs, points_answer, receiver_ended, sums_ended, with_eq, taps_answer, open_answer, end_answer}
 use Rattle.wire.specs.Wire.{packed_of}
 use Rattle.fields.specs.Fields.{at, at8, at32, signed64, sixteens_of, ones_at, least_of, four_told}
 use Rattle.eq_calls.specs.Turns.{turn_of as eq_turn_of}
 use Rattle.receiver_state.specs.Turns.{turn_of as state_turn_of}
-use Rattle.receiver_feed.specs.declared.Fed.{Fed}
+use Rattle.receiver_play.specs.declared.Played.{Played}
+use Rattle.receiver_play.specs.declared.Told.{Told}
 use Rattle.receiver_calls.specs.declared.kept.Kept.{Kept}
 use Rattle.receiver_calls.specs.declared.kept.Turn.{Turn}
 use Rattle.receiver_calls.specs.Kept.{with_receiver, with_played, with_words, turned}
@@ -19,8 +27,8 @@ use Rattle.receiver_calls.specs.Told.{event_told, played_told, ended_told}
 unfoldable pub plain : Kept → ℕ → Turn
 plain k refusal = turned k (four_told refusal 0 0 0)
 
-unfoldable pub answered_turn : Kept → Answered → Turn
-answered_turn k a = plain (with_receiver k a.receiver k.sums) a.refusal
+unfoldable pub answered_turn : Kept → Result Receiver (Refused Receiver) → Turn
+answered_turn k a = plain (with_receiver k (state_after a) k.sums) (code_in a)
 
 -- the receiver's equaliser: the calls of eq_calls, with their answers
 unfoldable pub eq_call : ℕ → Kept → List ℕ → Turn
@@ -47,8 +55,13 @@ taps_call k p = answered_turn k (taps_answer k.receiver (sixteens_of p) (at32 p 
 unfoldable pub open_call : Kept → List ℕ → Turn
 open_call k p = answered_turn k (open_answer k.receiver (at32 p 1))
 
+-- zeros are kept and told where no sums ended
+unfoldable pub ended_turn : Kept → Receiver → Option Sums → ℕ → Turn
+ended_turn k r None refusal = turned (with_receiver k r (empty_sums 0)) (ended_told refusal false (empty_sums 0))
+ended_turn k r (Some s) refusal = turned (with_receiver k r s) (ended_told refusal true s)
+
 unfoldable pub end_call : Kept → Turn
-end_call k = let a = end_answer k.receiver in turned (with_receiver k a.receiver a.sums) (ended_told a)
+end_call k = let a = end_answer k.receiver in ended_turn k (receiver_ended a) (sums_ended a) (code_in a)
 
 -- an event of the last play: 0 the first, 1 the second, otherwise the third
 unfoldable pub event_at : Events → ℕ → Event
@@ -59,6 +72,13 @@ event_at e (suc (suc n)) = e.third
 unfoldable pub event_call : Kept → List ℕ → Turn
 event_call k p = turned k (event_told (event_at k.events (at p 1)))
 
--- ---- what a play leaves and tells
-unfoldable pub played_turn : Kept → Fed → Turn
-played_turn k a = turned (with_played k a.receiver a.events) (played_told a)
+-- ---- what a play leaves and tells: no events where it was refused
+abbrev pub told_turn : Kept → ℕ → Receiver → ℕ → Events → Runs → Turn
+told_turn k used r refusal es runs = turned (with_played k r es) (played_told refusal used es runs)
+
+unfoldable pub played_as : Kept → ℕ → Receiver → Result Told Refusal → Turn
+played_as k used r (Ok t) = told_turn k used r 0 t.events t.runs
+played_as k used r (Err why) = told_turn k used r (number_of why) no_events no_runs
+
+unfoldable pub played_turn : Kept → Played → Turn
+played_turn k a = played_as k a.used a.receiver a.told

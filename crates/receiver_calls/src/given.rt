@@ -14,10 +14,8 @@ pub(crate) fn points(bytes: &[u8; 192]) -> [i16; 80]
     ensures { result ≡ points_of bytes.now }
 {
     let mut t = no_points();
-    let mut k: usize = 0;
-    while k < 80 {
+    for k in 0..80 {
         t[k] = fields::ranged::pair_at(bytes, 32 + 2 * k);
-        k += 1;
     }
     t
 }

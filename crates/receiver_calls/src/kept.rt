@@ -23,57 +23,35 @@ pub struct Turn {
 }
 
 // Another receiver, and other sums.
-pub(crate) fn with_receiver(k: Kept, r: Receiver, t: Sums) -> Kept
-    ensures { result ≡ with_receiver k r t }
+pub(crate) fn with_receiver(k: Kept, receiver: Receiver, sums: Sums) -> Kept
+    ensures { result ≡ with_receiver k receiver sums }
 {
-    let f = k.f;
-    let s = k.s;
-    let e = k.events;
     Kept {
-        receiver: r,
-        sums: t,
-        f: f,
-        s: s,
-        events: e,
+        receiver,
+        sums,
+        ..k
     }
 }
 
 // Another receiver, and other events.
-pub(crate) fn with_played(k: Kept, r: Receiver, e: Events) -> Kept
-    ensures { result ≡ with_played k r e }
+pub(crate) fn with_played(k: Kept, receiver: Receiver, events: Events) -> Kept
+    ensures { result ≡ with_played k receiver events }
 {
-    let t = k.sums;
-    let f = k.f;
-    let s = k.s;
     Kept {
-        receiver: r,
-        sums: t,
-        f: f,
-        s: s,
-        events: e,
+        receiver,
+        events,
+        ..k
     }
 }
 
 pub(crate) fn with_words(k: Kept, f: [i8; 48], s: [i8; 48]) -> Kept
     ensures { result ≡ with_words k f s }
 {
-    let r = k.receiver;
-    let t = k.sums;
-    let e = k.events;
-    Kept {
-        receiver: r,
-        sums: t,
-        f: f,
-        s: s,
-        events: e,
-    }
+    Kept { f, s, ..k }
 }
 
-pub fn turned(k: Kept, told: [u64; 24]) -> Turn
-    ensures { result ≡ turned k told }
+pub fn turned(kept: Kept, told: [u64; 24]) -> Turn
+    ensures { result ≡ turned kept told }
 {
-    Turn {
-        kept: k,
-        told: told,
-    }
+    Turn { kept, told }
 }

@@ -11,8 +11,9 @@ ghost use Rattle.receiver_calls.specs.Calls.{plain, answered_turn, played_turn};
 ghost use Rattle.receiver_calls.specs.Turns.{plain_of, turn_of};
 
 use kept::{Kept, Turn};
-use receiver::Answered;
-use receiver_feed::Fed;
+use receiver::Receiver;
+use receiver_play::Played;
+use refusal::Refused;
 
 // A refusal, or 0, alone.
 pub fn plain(k: Kept, refusal: u8) -> Turn
@@ -21,21 +22,32 @@ pub fn plain(k: Kept, refusal: u8) -> Turn
     kept::turned(k, fields::four(refusal, 0, 0, 0))
 }
 
-pub fn answered(k: Kept, a: Answered) -> Turn
-    ensures { result ≡ answered_turn k a }
+pub fn answered(k: Kept, answer: Result<Receiver, Refused<Receiver>>) -> Turn
+    ensures { result ≡ answered_turn k answer }
 {
-    let r = a.receiver;
-    let t = k.sums;
-    plain(kept::with_receiver(k, r, t), a.refusal)
+    match answer {
+        Ok(r) => plain(kept::with_receiver(k, r, k.sums), 0),
+        Err(x) => plain(kept::with_receiver(k, x.state, k.sums), x.why.number()),
+    }
 }
 
-// What a play leaves and tells.
-pub fn played(k: Kept, a: Fed) -> Turn
+// What a play leaves and tells: no events where it was refused.
+pub fn played(k: Kept, a: Played) -> Turn
     ensures { result ≡ played_turn k a }
 {
-    let r = a.receiver;
-    let e = a.events;
-    kept::turned(kept::with_played(k, r, e), told::played(a))
+    match a.told {
+        Ok(t) => kept::turned(
+            kept::with_played(k, a.receiver, t.events),
+            told::played(0, a.used, t.events, t.runs),
+        ),
+        Err(why) => {
+            let e = receiver::told::no_events();
+            kept::turned(
+                kept::with_played(k, a.receiver, e),
+                told::played(why.number(), a.used, e, receiver::told::no_runs()),
+            )
+        }
+    }
 }
 
 // A call that takes no store; 255 is no refusal of document 01.

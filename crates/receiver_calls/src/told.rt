@@ -2,9 +2,9 @@
 ghost use Rattle.std.specs.Prelude.{◌≡◌};
 ghost use Rattle.receiver_calls.specs.Told.{period_told, event_told, kind_of, played_told, ended_told};
 
-use receiver::Ended;
-use receiver_feed::Fed;
-use sync_step::{Event, SyncStats};
+use receiver_slot::Runs;
+use sums::Sums;
+use sync_step::{Event, Events, SyncStats};
 
 fn period(p: SyncStats) -> [u64; 24]
     ensures { result ≡ period_told p }
@@ -15,9 +15,9 @@ fn period(p: SyncStats) -> [u64; 24]
         p.peak as u64,
         p.peak_pos as u64,
         p.sum,
-        fields::flag(p.locked),
-        p.offset as u64,
-        p.ssync_parity as u64,
+        fields::flag(p.offset.is_some()),
+        p.offset.unwrap_or(0) as u64,
+        fields::flag(p.ssync_odd),
         p.stray_markers as u64,
         p.missed_markers as u64,
         0,
@@ -61,21 +61,17 @@ fn kind(e: Event) -> u64
 }
 
 // What a play comes to: the kinds of its events, and the runs.
-pub(crate) fn played(a: Fed) -> [u64; 24]
-    ensures { result ≡ played_told a }
+pub(crate) fn played(refusal: u8, used: usize, es: Events, runs: Runs) -> [u64; 24]
+    ensures { result ≡ played_told refusal used es runs }
 {
-    let es = a.events;
-    let x = es.first;
-    let y = es.second;
-    let z = es.third;
-    let t = a.runs.tail;
-    let b = a.runs.body;
+    let t = runs.tail;
+    let b = runs.body;
     [
-        a.refusal as u64,
-        a.used as u64,
-        kind(x),
-        kind(y),
-        kind(z),
+        refusal as u64,
+        used as u64,
+        kind(es.first),
+        kind(es.second),
+        kind(es.third),
         t.at,
         t.j as u64,
         t.count as u64,
@@ -99,14 +95,13 @@ pub(crate) fn played(a: Fed) -> [u64; 24]
 }
 
 // Whether sums ended, and these.
-pub(crate) fn ended(a: Ended) -> [u64; 24]
-    ensures { result ≡ ended_told a }
+pub(crate) fn ended(refusal: u8, ended: bool, sums: Sums) -> [u64; 24]
+    ensures { result ≡ ended_told refusal ended sums }
 {
-    let s = a.sums;
-    let d = eq_calls::told::sums_shown(s);
+    let d = eq_calls::told::sums_shown(sums);
     [
-        a.refusal as u64,
-        fields::flag(a.ended),
+        refusal as u64,
+        fields::flag(ended),
         d.frame,
         d.count,
         d.upper,

@@ -1,4 +1,6 @@
 -- A symbol that tells nothing changes what `move_one` says, and a stretch of them is a feed's symbols. Assumes nothing.
+use Rattle.std.specs.Prelude.{Option, None, Some, Result, Ok}
+use Rattle.phase.specs.declared.Held.{Held}
 use Prim.Native.Nat.{ℕ, zero, suc, ◌+◌, ◌-◌, ◌*◌, ◌^◌, ◌<◌, ◌≤◌, min}
 use mathlib.Core.Bool.{Bool, true, false, ◌&&◌}
 use mathlib.Core.List.{List, [], ◌∷◌, ◌++◌}
@@ -31,30 +33,32 @@ use Rattle.receiver_bounds.proofs.Ready.{run-wide}
 use Rattle.sync_block.proofs.Laws.{ahead, both_at, level_at, place-on, silent, symbol-quiet}
 use Rattle.carrier.specs.declared.Nco.{Nco}
 use Rattle.carrier.specs.Carrier.{advanced_nco, rotated_of}
-use Rattle.phase.specs.declared.SlotPhase.{SlotPhase}
-use Rattle.phase.specs.declared.SlotPhase.TheVariants.{Idle, Holds}
-use Rattle.phase.specs.declared.Due.TheVariants.{Nothing as NoSlot}
 use Rattle.phase.specs.Phase.{counted_in, pushed_in, stored_in, symbol_at}
 use Rattle.receiver_slot.specs.Slot.{no_run}
 use Rattle.receiver_bounds.specs.Bounds.{all_within, back_within, head_within, held_within, nco_within, phase_within, points_within, run_within, stage_within, tally_within, trail_within, within}
 use Rattle.receiver.specs.declared.Receiver.{Receiver}
+use Rattle.refusal.specs.declared.Refused.{Refused}
+use Rattle.receiver.specs.declared.Answer.{Answer}
 use Rattle.receiver.specs.declared.Listened.{Listened}
 use Rattle.receiver.specs.Heads.{event_heard, is_lost, listened, loses_in}
 use Rattle.receiver.specs.Symbol.{Input, Lent, next_of}
 use Rattle.receiver.specs.Ranges.{front_within, receiver_in_range}
-use Rattle.receiver.specs.Answers.{no_runs, symbol_answer, symbol_lent}
+use Rattle.receiver.specs.Answers.{no_runs, range_refusal, symbol_answer, symbol_lent}
 use Rattle.receiver.specs.Feed.{Block, any_event, input_at, tells_any}
 use Rattle.receiver_symbol.specs.declared.Ahead.{Ahead as Seen}
-use Rattle.receiver_symbol.specs.Parts.{after_by, ahead_by, left_by, phase_by, soon_refusal, state_refusal, store_by, stored_by, taken_by, window_by}
+use Rattle.receiver_symbol.specs.Parts.{after_by, ahead_by, left_by, lent_refusal, next_refusal, phase_by, soon_refusal, state_refusal, store_by, stored_by, taken_by, window_by}
 use Rattle.receiver_symbol.proofs.Symbols.{answer-later, acc-later, store-later, soft-later, answer_none, acc-none, store-none, soft-none}
 use Rattle.receiver_feed.specs.Quiet.{Course, Fits, Moving, course_of, kept_at, lent_by, move_one, moves, moves_from, moving, passed_by, phase_on, place_in, start_of}
-use Rattle.receiver_feed.specs.Turns.{Stands, calm_of, stand_from}
+use Rattle.receiver_feed.specs.Turns.{Stands, calm_of, stand_by, stand_from}
+
+abbrev accepted : Answer → Result Answer (Refused Receiver)
+accepted a = Ok a
 
 -- ---- a symbol looked at that tells nothing: what it leaves
-module _ (r : Receiver) (a : Seen) (n : Nco) (s : SlotPhase) (q : Run) (last : LastCorr) (late : 23 ≤ r.front.sync.run.t)
-    (es : a.step ≡ kept_of q last no_events) (eh : a.heard ≡ record { nco = n; phase = s; due = NoSlot }) where
+module _ (r : Receiver) (a : Seen) (n : Nco) (s : Option Held) (q : Run) (last : LastCorr) (late : 23 ≤ r.front.sync.run.t)
+    (es : a.step ≡ kept_of q last no_events) (eh : a.heard ≡ record { nco = n; phase = s; due = None }) where
   quiet-taken : taken_by r a r.back no_runs
-      ≡ record { refusal = 0; receiver = record { front = record { nco = n; sync = record { win = a.win; run = q }; phase = pushed_in 9296 s }; back = r.back; points = r.points }; events = no_events; runs = no_runs }
+      ≡ record { receiver = record { front = record { nco = n; sync = record { win = a.win; run = q }; phase = pushed_in 9296 s }; back = r.back; points = r.points }; events = no_events; runs = no_runs }
   unfolding taken_by after_by left_by phase_by kept_of kept_window loses_in is_lost no_events when◌then◌else◌
   quiet-taken = rw (es, eh, le-leb 23 r.front.sync.run.t late)
 
@@ -66,7 +70,7 @@ module _ (r : Receiver) (a : Seen) (n : Nco) (s : SlotPhase) (q : Run) (last : L
   unfolding stored_of kept_of
   quiet-acc p acc = rw es
 
-  quiet-due : a.heard.due ≡ NoSlot
+  quiet-due : a.heard.due ≡ None
   quiet-due = rw eh
 
 -- ---- a symbol of a receiver that tells nothing
@@ -94,7 +98,7 @@ module _ (r : Receiver) (x : Input) (l : Lent) where
 
   -- what makes it so
   pub record Calm : Type 0 where
-    pub soon : soon_refusal r (length l.acc) (length l.store) (length l.soft) x.f x.s (length x.table) ≡ 0
+    pub soon : soon_refusal r (length l.acc) (length l.store) (length l.soft) x.f x.s (length x.table) ≡ Ok tt
     pub late : 23 ≤ r.front.sync.run.t
     pub silent : locked_at r.front.sync.run.lock place ≡ false
     pub early : place < 9295
@@ -108,9 +112,9 @@ module _ (r : Receiver) (x : Input) (l : Lent) where
     unfolding listened event_heard no_events
     heard-none h = refl
 
-    heard-is : looked.heard ≡ record { nco = advanced_nco r.front.nco; phase = r.front.phase; due = NoSlot }
+    heard-is : looked.heard ≡ record { nco = advanced_nco r.front.nco; phase = r.front.phase; due = None }
     unfolding ahead_by kept_of
-    heard-is = ap (listened 9296 (record { nco = advanced_nco r.front.nco; phase = r.front.phase; due = NoSlot })) events-are ∙ heard-none _
+    heard-is = ap (listened 9296 (record { nco = advanced_nco r.front.nco; phase = r.front.phase; due = None })) events-are ∙ heard-none _
       where
         events-are : looked.step.events ≡ no_events
         events-are = unfold kept_of in ap (λ (s : _). s.events) step_is
@@ -123,10 +127,10 @@ module _ (r : Receiver) (x : Input) (l : Lent) where
     v = window_after r.front.sync.win turned-i turned-q
 
     pub quiet-answer : symbol_answer r x l
-        ≡ record { refusal = 0; receiver = record { front = record { nco = advanced_nco r.front.nco; sync = record { win = v; run = after }; phase = pushed_in 9296 r.front.phase }; back = r.back; points = r.points }; events = no_events; runs = no_runs }
+        ≡ Ok (record { receiver = record { front = record { nco = advanced_nco r.front.nco; sync = record { win = v; run = after }; phase = pushed_in 9296 r.front.phase }; back = r.back; points = r.points }; events = no_events; runs = no_runs })
     quiet-answer =
         sym (answer-later r x l c.soon) ∙ sym (answer_none r looked x.f x.s x.table l.store (quiet-due r looked _ _ _ _ c.late step_is heard-is))
-        ∙ quiet-taken r looked _ _ _ _ c.late step_is heard-is ∙ rw win-is
+        ∙ ap accepted (quiet-taken r looked _ _ _ _ c.late step_is heard-is ∙ rw win-is)
 
     pub quiet-lent : symbol_lent r x l
         ≡ record { acc = set l.acc place level; store = stored_in 9296 r.front.phase (symbol_at v 0).i (symbol_at v 0).q l.store; soft = l.soft }
@@ -183,9 +187,9 @@ window_in r e = (front_in r e).win
 pub place_in_lem : (r : Receiver) → receiver_in_range r ≡ true → place_in r.front.phase ≤ 9296
 place_in_lem r e = go r.front.phase (front_in r e).phase
   where
-    go : (s : SlotPhase) → phase_within s ≡ true → place_in s ≤ 9296
-    go Idle h = unfold place_in in omega arith
-    go (Holds x) h = unfold place_in phase_within held_within within in
+    go : (s : Option Held) → phase_within s ≡ true → place_in s ≤ 9296
+    go None h = unfold place_in in omega arith
+    go (Some x) h = unfold place_in phase_within held_within within in
         leb-true x.count 9296 (and_both (leb 1 x.count) (leb x.count 9296) (and_both (head_within x.head) (leb 1 x.count && leb x.count 9296) h).1).1
 
 -- ---- a window with one more symbol in range
@@ -250,41 +254,41 @@ unfolding moves move_one symbol_at
 moves_more d i p c k o win w y v acc e store g a t xi xq z em ei eq ez er eg et = rw (add-one k, ← em, ← ei, ← eq, ← ez, ← er, eg, et)
 
 -- ---- a receiver in the midst of such symbols
-phase_start : (s : SlotPhase) → phase_within s ≡ true → phase_on 0 s ≡ s
+phase_start : (s : Option Held) → phase_within s ≡ true → phase_on 0 s ≡ s
 unfolding phase_on phase_within held_within within
-phase_start Idle h = refl
-phase_start (Holds x) h =
+phase_start None h = refl
+phase_start (Some x) h =
     let a = leb-true x.count 9296 (and_both (leb 1 x.count) (leb x.count 9296) (and_both (head_within x.head) (leb 1 x.count && leb x.count 9296) h).1).1 in
     let e : min (x.count + 0) 9296 ≡ x.count = omega (arith, a) in
     rw e
 
-phase_more : (k : ℕ) (s : SlotPhase) → pushed_in 9296 (phase_on k s) ≡ phase_on (suc k) s
+phase_more : (k : ℕ) (s : Option Held) → pushed_in 9296 (phase_on k s) ≡ phase_on (suc k) s
 unfolding phase_on pushed_in counted_in
-phase_more k Idle = refl
-phase_more k (Holds x) =
+phase_more k None = refl
+phase_more k (Some x) =
     by_test (ltb (min (x.count + k) 9296) 9296)
     (λ t.
     let h = ltb-true (min (x.count + k) 9296) 9296 t in
     let e : min (x.count + k) 9296 + 1 ≡ min (x.count + suc k) 9296 = omega (arith, h) in
-    ap Holds (if_yes _ _ _ t ∙ ap (λ (n : ℕ). record { head = x.head; count = n }) e))
+    ap Some (if_yes _ _ _ t ∙ ap (λ (n : ℕ). record { head = x.head; count = n }) e))
     (λ t.
     let h = ltb-false (min (x.count + k) 9296) 9296 t in
     let e : min (x.count + k) 9296 ≡ min (x.count + suc k) 9296 = omega (arith, h) in
-    ap Holds (if_no _ _ _ t ∙ ap (λ (n : ℕ). record { head = x.head; count = n }) e))
+    ap Some (if_no _ _ _ t ∙ ap (λ (n : ℕ). record { head = x.head; count = n }) e))
 
-phase_stays : (k : ℕ) (s : SlotPhase) → phase_within s ≡ true → phase_within (phase_on k s) ≡ true
+phase_stays : (k : ℕ) (s : Option Held) → phase_within s ≡ true → phase_within (phase_on k s) ≡ true
 unfolding phase_on phase_within held_within within
-phase_stays k Idle h = refl
-phase_stays k (Holds x) h =
+phase_stays k None h = refl
+phase_stays k (Some x) h =
     let a = and_both (head_within x.head) (leb 1 x.count && leb x.count 9296) h in
     let b = leb-true 1 x.count (and_both (leb 1 x.count) (leb x.count 9296) a.1).0 in
     let n = min (x.count + k) 9296 in
     and_yes _ _ a.0 (and_yes (leb 1 n) (leb n 9296) (le-leb 1 n (omega (arith, b))) (le-leb n 9296 (omega arith)))
 
-stored_more : (k : ℕ) (s : SlotPhase) (i q : ℤ) (store : List ℤ) → phase_within s ≡ true → stored_in 9296 (phase_on k s) i q store ≡ kept_at (place_in s + k) i q store
+stored_more : (k : ℕ) (s : Option Held) (i q : ℤ) (store : List ℤ) → phase_within s ≡ true → stored_in 9296 (phase_on k s) i q store ≡ kept_at (place_in s + k) i q store
 unfolding phase_on stored_in kept_at place_in
-stored_more k Idle i q store h = sym (if_no (ltb (9296 + k) 9296) _ _ (le-ltb (9296 + k) 9296 (omega arith)))
-stored_more k (Holds x) i q store h =
+stored_more k None i q store h = sym (if_no (ltb (9296 + k) 9296) _ _ (le-ltb (9296 + k) 9296 (omega arith)))
+stored_more k (Some x) i q store h =
     by_test (ltb (x.count + k) 9296)
     (λ t.
     let a = ltb-true (x.count + k) 9296 t in
@@ -347,8 +351,8 @@ module _ (r : Receiver) (k i : ℕ) (x : Moving) (b : Block) (soft : List ℤ) (
   in-range-here : receiver_in_range here ≡ true
   in-range-here = passed-in r k x e f (omega (arith, o.time, l))
 
-  soon-none : soon_refusal here (length lent.acc) (length lent.store) (length lent.soft) input.f input.s (length input.table) ≡ 0
-  unfolding soon_refusal state_refusal next_of lent_by input_at when◌then◌else◌
+  soon-none : soon_refusal here (length lent.acc) (length lent.store) (length lent.soft) input.f input.s (length input.table) ≡ Ok tt
+  unfolding soon_refusal lent_refusal state_refusal range_refusal next_refusal next_of lent_by input_at when◌then◌else◌
   soon-none =
       rw (eq-eqb (length x.acc) 9296 g.long, eq-eqb (length x.store) 18592 g.held, le-leb 44880 (length soft) g.buffer, g.first, g.second, eq-eqb (length b.table) 1024 g.cosines, in-range-here)
       (rw below)
@@ -391,16 +395,16 @@ module _ (r : Receiver) (k i : ℕ) (x : Moving) (b : Block) (soft : List ℤ) (
   unfolding passed_by move_one course_of roll_one input_at lent_by
   lent-next = rw (stored_more k r.front.phase _ _ x.store (front_in r e).phase, at_place, dots_both (window_after x.win _ _) b.f b.s)
 
-  pub answer-next : symbol_answer here input lent ≡ record { refusal = 0; receiver = passed_by r (suc k) next; events = no_events; runs = no_runs }
-  answer-next = quiet-answer here input lent calm-here ∙ ap (λ (n : Receiver). record { refusal = 0; receiver = n; events = no_events; runs = no_runs }) receiver-next
+  pub answer-next : symbol_answer here input lent ≡ Ok (record { receiver = passed_by r (suc k) next; events = no_events; runs = no_runs })
+  answer-next = quiet-answer here input lent calm-here ∙ ap (λ (n : Receiver). accepted (record { receiver = n; events = no_events; runs = no_runs })) receiver-next
 
   pub leaves-next : symbol_lent here input lent ≡ lent_by soft next
   leaves-next = quiet-lent here input lent calm-here ∙ lent-next
 
 -- ---- a stretch of them
-stand_quiet : (b : Block) (rest i : ℕ) (r n : Receiver) (l m : Lent) → symbol_answer r (input_at b i) l ≡ record { refusal = 0; receiver = n; events = no_events; runs = no_runs } →
+stand_quiet : (b : Block) (rest i : ℕ) (r n : Receiver) (l m : Lent) → symbol_answer r (input_at b i) l ≡ Ok (record { receiver = n; events = no_events; runs = no_runs }) →
     symbol_lent r (input_at b i) l ≡ m → stand_from b (suc rest) i r l ≡ stand_from b rest (i + 1) n m
-unfolding stand_from tells_any any_event is_nothing no_events no_runs no_run when◌then◌else◌
+unfolding stand_from stand_by tells_any any_event is_nothing no_events no_runs no_run when◌then◌else◌
 stand_quiet b rest i r n l m ea em = rw (ea, em)
 
 module _ (r : Receiver) (b : Block) (i m : ℕ) (acc : List ℕ) (store soft : List ℤ) (e : receiver_in_range r ≡ true) (o : Ahead r.front.sync.run (suc m))

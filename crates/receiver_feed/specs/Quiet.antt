@@ -1,14 +1,13 @@
 -- How the code goes through symbols that tell nothing: window, figures, carrier phase, one accumulator and one place of the slot store change. That this is
 -- what a symbol's call does is a law (proofs/Calm.antt).
-use Rattle.std.specs.Prelude.{ℕ, zero, suc, ◌+◌, ◌*◌, min, true, List, ◌≡◌, ltb, ℤ, pos, get_or, set}
+use Rattle.phase.specs.declared.Held.{Held}
+use Rattle.std.specs.Prelude.{ℕ, zero, suc, ◌+◌, ◌*◌, min, true, List, ◌≡◌, ltb, ℤ, pos, get_or, set, Option, None, Some}
 use Rattle.laws.specs.Choice.{when◌then◌else◌}
 use Rattle.angles.specs.Angles.{turned_by}
 use Rattle.sync_lock.specs.declared.Tally.{Tally}
 use Rattle.sync_step.specs.Step.{place_of}
 use Rattle.sync_block.specs.Quiet.{passed_run, roll_one, rolled}
 use Rattle.carrier.specs.Carrier.{rotated_of}
-use Rattle.phase.specs.declared.SlotPhase.{SlotPhase}
-use Rattle.phase.specs.declared.SlotPhase.TheVariants.{Idle, Holds}
 use Rattle.phase.specs.Phase.{symbol_at}
 use Rattle.receiver_bounds.specs.Bounds.{all_within, tally_within}
 use Rattle.receiver.specs.declared.Receiver.{Receiver}
@@ -56,14 +55,14 @@ pub record Fits (x : Moving) : Type 0 where
 
 -- ---- a receiver goes through them
 -- the next place of the slot store; none is 9,296
-unfoldable pub place_in : SlotPhase → ℕ
-place_in Idle = 9296
-place_in (Holds x) = x.count
+unfoldable pub place_in : Option Held → ℕ
+place_in None = 9296
+place_in (Some x) = x.count
 
 -- k more symbols are counted, up to the 9,296th
-unfoldable pub phase_on : ℕ → SlotPhase → SlotPhase
-phase_on k Idle = Idle
-phase_on k (Holds x) = Holds (record { head = x.head; count = min (x.count + k) 9296 })
+unfoldable pub phase_on : ℕ → Option Held → Option Held
+phase_on k None = None
+phase_on k (Some x) = Some (record { head = x.head; count = min (x.count + k) 9296 })
 
 unfoldable pub start_of : Receiver → List ℕ → List ℤ → Moving
 start_of r acc store = moving r.front.sync.win r.front.sync.run.tally acc store r.front.nco.phase

@@ -13,28 +13,33 @@ ghost use Rattle.receiver_feed.specs.Answers.{feed_answer};
 
 use receiver::Receiver;
 use receiver_slot::Runs;
+use refusal::{Refusal, Refused};
 use sync_lock::Tally;
 use sync_step::Events;
 
-// The number of symbols used; events and runs are those of the last of them. A refusal comes with none used.
+// The number of symbols used; events and runs are those of the last of them.
 #[derive(Clone, Copy)]
 pub struct Fed {
-    pub refusal: u8,
     pub used: usize,
     pub receiver: Receiver,
     pub events: Events,
     pub runs: Runs,
 }
 
-// Where a feed stands; `done`: it stops there.
+// How a turn leaves a feed: it goes on, a symbol has told something, or the next one would be refused.
+#[derive(Clone, Copy)]
+enum Goes {
+    On,
+    Told(Events, Runs),
+    Refused(Refusal),
+}
+
+// Where a feed stands.
 #[derive(Clone, Copy)]
 struct Turn {
-    refusal: u8,
     used: usize,
     receiver: Receiver,
-    events: Events,
-    runs: Runs,
-    done: bool,
+    goes: Goes,
 }
 
 // What symbols that tell nothing leave, besides window and stores.
@@ -52,7 +57,8 @@ struct Passed {
     receiver: Receiver,
 }
 
-// The symbols of a slice, I before Q, up to and with the first that tells anything, or before the first that would be refused.
+// The symbols of a slice, I before Q, up to and with the first that tells anything, or before the first that would be refused. A refusal is told where that is
+// the first of all.
 pub fn feed(
     r: Receiver,
     bytes: &[i8],
@@ -62,15 +68,14 @@ pub fn feed(
     acc: &mut [u32],
     store: &mut [i16],
     soft: &mut [i8],
-) -> Fed
+) -> Result<Fed, Refused<Receiver>>
     ensures { (result ≡ feed_answer r (record { bytes = bytes.now; f = f; s = s; table = table.now }) (record { acc = acc.old; store = store.old; soft = soft.old })) × (acc.new ≡ (feed_of r (record { bytes = bytes.now; f = f; s = s; table = table.now }) (record { acc = acc.old; store = store.old; soft = soft.old })).lent.acc) × (store.new ≡ (feed_of r (record { bytes = bytes.now; f = f; s = s; table = table.now }) (record { acc = acc.old; store = store.old; soft = soft.old })).lent.store) × (soft.new ≡ (feed_of r (record { bytes = bytes.now; f = f; s = s; table = table.now }) (record { acc = acc.old; store = store.old; soft = soft.old })).lent.soft) }
 {
-    let n = ready::standing(r, acc.len(), store.len(), soft.len(), &f, &s, table.len());
-    if n == 0 {
-        let rows = sync_corr::plain::rows(&f, &s);
-        let t = turns::all(r, bytes, &f, &s, &rows, table, acc, store, soft);
-        turns::answer(t)
-    } else {
-        turns::refused(n, r)
+    match ready::standing(r, acc.len(), store.len(), soft.len(), &f, &s, table.len()) {
+        Ok(()) => {
+            let rows = sync_corr::plain::rows(&f, &s);
+            turns::answer(turns::all(r, bytes, &f, &s, &rows, table, acc, store, soft))
+        }
+        Err(why) => Err(Refused { why, state: r }),
     }
 }

@@ -6,7 +6,7 @@ ghost use Rattle.receiver_bounds.specs.Bounds.{all_within, tally_within};
 ghost use Rattle.receiver_feed.specs.Quiet.{Fits, kept_at, moves, moving, place_in};
 
 use crate::Moved;
-use phase::SlotPhase;
+use phase::Held;
 use sync_lock::Tally;
 
 // A symbol into the slot store; past the 9,296th it is ignored.
@@ -79,7 +79,7 @@ pub(crate) fn moved(
     i: usize,
     n: usize,
     p: usize,
-    s: SlotPhase,
+    s: Option<Held>,
     rows: &[i16; 192],
     table: &[i16],
     win: &mut [i16; 48],
@@ -90,10 +90,10 @@ pub(crate) fn moved(
     ensures { (moving win.new result.tally acc.new store.new result.phase ≡ moves (record { bytes = bytes.now; table = table.now; rows = rows.now; freq = freq }) i p (place_in s) result.taken (moving win.old y0 acc.old store.old phase)) × (1 ≤ result.taken) × (result.taken ≤ n) × ((j : ℕ) → j < result.taken → Fits (moves (record { bytes = bytes.now; table = table.now; rows = rows.now; freq = freq }) i p (place_in s) j (moving win.old y0 acc.old store.old phase))) × (all_within 4096 win.new ≡ true) }
 {
     match s {
-        SlotPhase::Idle => quiet(
+        None => quiet(
             y0, phase, freq, bytes, i, n, p, 9296, rows, table, win, acc, store,
         ),
-        SlotPhase::Holds(x) => {
+        Some(x) => {
             let c = x.count as usize;
             quiet(
                 y0, phase, freq, bytes, i, n, p, c, rows, table, win, acc, store,

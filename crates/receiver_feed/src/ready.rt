@@ -6,8 +6,9 @@ ghost use Rattle.receiver_symbol.specs.Parts.{state_refusal};
 ghost use Rattle.receiver_feed.specs.Turns.{calm_of, standing_by};
 
 use receiver::Receiver;
+use refusal::Refusal;
 
-// 0, or why no symbol can be taken: in the order of document 01's table.
+// Why no symbol can be taken, in the order of document 01's table.
 pub(crate) fn standing(
     r: Receiver,
     acc: usize,
@@ -16,26 +17,11 @@ pub(crate) fn standing(
     f: &[i8; 48],
     s: &[i8; 48],
     table: usize,
-) -> u8
+) -> Result<(), Refusal>
     ensures { result ≡ standing_by r acc store soft f.now s.now table }
 {
-    if (acc == 9296) & (store == 18592) & (44880 <= soft) {
-        if sync_corr::plain::ones(f) & sync_corr::plain::ones(s) {
-            if table == 1024 {
-                if receiver::plain::receiver_within(r) {
-                    0
-                } else {
-                    6
-                }
-            } else {
-                3
-            }
-        } else {
-            2
-        }
-    } else {
-        1
-    }
+    receiver_symbol::refusals::lent(acc, store, soft, f, s, table)?;
+    receiver::plain::range_refusal(r)
 }
 
 fn smaller(a: usize, b: usize) -> usize
@@ -57,19 +43,15 @@ pub(crate) fn calm(r: Receiver, left: usize) -> usize
     }
 }
 
-// 0, or why the state refuses the next symbol. Only the figures can have left their range: in a stretch, where the accumulators that were handed in are full.
-pub(crate) fn refusal(r: Receiver) -> u8
+// Why the state refuses the next symbol. Only the figures can have left their range: in a stretch, where the accumulators that were handed in are full.
+pub(crate) fn refusal(r: Receiver) -> Result<(), Refusal>
     requires { receiver_in_range r ≡ tally_within r.front.sync.run.tally }
     ensures { result ≡ state_refusal r }
 {
-    let y = r.front.sync.run;
-    let c = y.tally;
-    if receiver_bounds::plain::tally_within(c) {
-        let past = sync::plain::past_end(y.base, y.t);
-        if past { 7 } else { 0 }
-    } else {
-        6
+    if !receiver_bounds::plain::tally_within(r.front.sync.run.tally) {
+        return Err(Refusal::Arithmetic);
     }
+    receiver_symbol::refusals::next(r)
 }
 
 // A receiver's numbers are in range: that is known of the one handed in, and tested of one that a symbol's own call left.

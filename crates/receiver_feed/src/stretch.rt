@@ -8,27 +8,27 @@ ghost use Rattle.receiver_feed.specs.Quiet.{Fits, moves_from, moving, passed_by,
 
 use crate::{Moved, Passed, quiet};
 use carrier::Nco;
-use phase::{Held, SlotPhase};
+use phase::Held;
 use receiver::{Front, Receiver};
 use sync::SlotSync;
 use sync_step::Run;
 
-fn phase_on(s: SlotPhase, k: usize) -> SlotPhase
+fn phase_on(s: Option<Held>, k: usize) -> Option<Held>
     requires { k ≤ 9296 }
     ensures { result ≡ phase_on k s }
 {
     match s {
-        SlotPhase::Idle => SlotPhase::Idle,
-        SlotPhase::Holds(x) => {
+        None => None,
+        Some(x) => {
             let h = x.head;
             let c = x.count as usize + k;
             if c < 9296 {
-                SlotPhase::Holds(Held {
+                Some(Held {
                     head: h,
                     count: c as u32,
                 })
             } else {
-                SlotPhase::Holds(Held {
+                Some(Held {
                     head: h,
                     count: 9296,
                 })

@@ -1,55 +1,48 @@
 // A feed by turns: a stretch of symbols that tell nothing, or one symbol.
-ghost use Rattle.std.specs.Prelude.{◌≡◌, true, ◌+◌, ◌-◌, ◌*◌, ◌/◌, ◌≤◌, ◌<◌, ◌^◌, length};
-ghost use Rattle.laws.specs.Choice.{when◌then◌else◌};
+ghost use Rattle.std.specs.Prelude.{◌≡◌, true, ◌&&◌, ltb, ◌+◌, ◌-◌, ◌*◌, ◌/◌, ◌≤◌, ◌<◌, ◌^◌, length};
 ghost use Rattle.sync_corr.specs.Rows.{rows_of};
 ghost use Rattle.receiver_bounds.specs.Bounds.{tally_within};
 ghost use Rattle.receiver.specs.Ranges.{receiver_in_range};
-ghost use Rattle.receiver_feed.specs.Turns.{Leads, Stands, answer_of, refused_feed, rest_by, stand_from, stopped_at, told_by};
+ghost use Rattle.receiver_feed.specs.Turns.{Leads, Stands, answer_of, goes_by, goes_on, quiet_fed, rest_by, stand_from, stopped_at, told_by};
 
-use crate::{Fed, Turn, ready, stretch};
+use crate::{Fed, Goes, Turn, ready, stretch};
 use receiver::{Answer, Receiver};
+use refusal::{Refusal, Refused};
+
+// How an accepted symbol leaves the feed.
+fn goes(a: Answer) -> Goes
+    ensures { result ≡ goes_by a }
+{
+    if receiver::told::tells(a) {
+        Goes::Told(a.events, a.runs)
+    } else {
+        Goes::On
+    }
+}
 
 // Symbol i was given to its call.
-fn told(a: Answer, i: usize) -> Turn
+fn told(answer: Result<Answer, Refused<Receiver>>, i: usize) -> Turn
     requires { i < 2 ^ 63 }
-    ensures { result ≡ told_by a i }
+    ensures { result ≡ told_by answer i }
 {
-    let n = a.refusal;
-    let r = a.receiver;
-    let es = a.events;
-    let runs = a.runs;
-    if n == 0 {
-        Turn {
-            refusal: 0,
+    match answer {
+        Ok(a) => Turn {
             used: i + 1,
-            receiver: r,
-            events: es,
-            runs: runs,
-            done: receiver::told::tells(a),
-        }
-    } else {
-        Turn {
-            refusal: n,
-            used: i,
-            receiver: r,
-            events: es,
-            runs: runs,
-            done: true,
-        }
+            receiver: a.receiver,
+            goes: goes(a),
+        },
+        Err(x) => stopped(x.why, x.state, i),
     }
 }
 
 // Symbol i would be refused.
-fn stopped(n: u8, r: Receiver, i: usize) -> Turn
-    ensures { result ≡ stopped_at n r i }
+fn stopped(why: Refusal, r: Receiver, i: usize) -> Turn
+    ensures { result ≡ stopped_at why r i }
 {
     Turn {
-        refusal: n,
         used: i,
         receiver: r,
-        events: receiver::told::no_events(),
-        runs: receiver::told::no_runs(),
-        done: true,
+        goes: Goes::Refused(why),
     }
 }
 
@@ -69,22 +62,22 @@ fn single(
     requires { (i < n) × (n ≡ length bytes.now / 2) × (Stands (length acc.old) (length store.old) (length soft.old) f.now s.now (length table.now)) × (receiver_in_range r ≡ tally_within r.front.sync.run.tally) }
     ensures { (rest_by (record { bytes = bytes.now; f = f.now; s = s.now; table = table.now }) n result (record { acc = acc.new; store = store.new; soft = soft.new }) ≡ stand_from (record { bytes = bytes.now; f = f.now; s = s.now; table = table.now }) (n - i) i r (record { acc = acc.old; store = store.old; soft = soft.old })) × (Leads n i result) }
 {
-    let k = ready::refusal(r);
-    if k == 0 {
-        let a = receiver_symbol::ranged::known(
-            r,
-            bytes[2 * i],
-            bytes[2 * i + 1],
-            f,
-            s,
-            table,
-            acc,
-            store,
-            soft,
-        );
-        told(a, i)
-    } else {
-        stopped(k, r, i)
+    match ready::refusal(r) {
+        Ok(()) => told(
+            receiver_symbol::ranged::known(
+                r,
+                bytes[2 * i],
+                bytes[2 * i + 1],
+                f,
+                s,
+                table,
+                acc,
+                store,
+                soft,
+            ),
+            i,
+        ),
+        Err(why) => stopped(why, r, i),
     }
 }
 
@@ -112,18 +105,24 @@ fn turn(
         single(r, i, n, bytes, f, s, table, acc, store, soft)
     } else if m < left {
         let p = stretch::stretch(r, bytes, i, m, rows, table, acc, store);
-        let x = p.receiver;
-        single(x, i + p.taken, n, bytes, f, s, table, acc, store, soft)
+        single(
+            p.receiver,
+            i + p.taken,
+            n,
+            bytes,
+            f,
+            s,
+            table,
+            acc,
+            store,
+            soft,
+        )
     } else {
         let p = stretch::stretch(r, bytes, i, left, rows, table, acc, store);
-        let x = p.receiver;
         Turn {
-            refusal: 0,
             used: i + p.taken,
-            receiver: x,
-            events: receiver::told::no_events(),
-            runs: receiver::told::no_runs(),
-            done: false,
+            receiver: p.receiver,
+            goes: Goes::On,
         }
     }
 }
@@ -148,17 +147,19 @@ fn next(
     if ready::still(r, i) {
         turn(r, i, n, bytes, f, s, rows, table, acc, store, soft)
     } else {
-        stopped(6, r, i)
+        stopped(Refusal::Arithmetic, r, i)
     }
 }
 
-// n, or where a turn stops the feed.
-fn until(t: Turn, n: usize) -> usize
-    ensures { result ≡ (when t.done then t.used else n) }
+// Whether there is another turn of n symbols.
+fn goes_on(t: &Turn, n: usize) -> bool
+    ensures { result ≡ (goes_on t.now && ltb t.now.used n) }
 {
-    let d = t.done;
-    let u = t.used;
-    if d { u } else { n }
+    match t.goes {
+        Goes::On => t.used < n,
+        Goes::Told(_, _) => false,
+        Goes::Refused(_) => false,
+    }
 }
 
 // All turns.
@@ -178,63 +179,51 @@ pub(crate) fn all(
 {
     let n = bytes.len() / 2;
     let mut t = Turn {
-        refusal: 0,
         used: 0,
         receiver: r,
-        events: receiver::told::no_events(),
-        runs: receiver::told::no_runs(),
-        done: false,
+        goes: Goes::On,
     };
-    let mut i: usize = 0;
-    let mut end = n;
-    while i < end {
-        let x = t.receiver;
-        t = next(x, i, n, bytes, f, s, rows, table, acc, store, soft);
-        i = t.used;
-        end = until(t, n);
+    while goes_on(&t, n) {
+        t = next(
+            t.receiver, t.used, n, bytes, f, s, rows, table, acc, store, soft,
+        );
     }
     t
 }
 
-// The answer after the last turn: the number that stops a feed is told if nothing was used.
-pub(crate) fn answer(t: Turn) -> Fed
-    ensures { result ≡ answer_of t }
+// So many symbols used, of which none told anything.
+fn quiet(t: Turn) -> Fed
+    ensures { result ≡ quiet_fed t.used t.receiver }
 {
-    let n = t.refusal;
-    let u = t.used;
-    let r = t.receiver;
-    let es = t.events;
-    let runs = t.runs;
-    let d = t.done;
-    if d {
-        let k = if u == 0 { n } else { 0 };
-        Fed {
-            refusal: k,
-            used: u,
-            receiver: r,
-            events: es,
-            runs: runs,
-        }
-    } else {
-        Fed {
-            refusal: 0,
-            used: u,
-            receiver: r,
-            events: receiver::told::no_events(),
-            runs: receiver::told::no_runs(),
-        }
+    Fed {
+        used: t.used,
+        receiver: t.receiver,
+        events: receiver::told::no_events(),
+        runs: receiver::told::no_runs(),
     }
 }
 
-// The receiver as it was handed in, and nothing told.
-pub(crate) fn refused(n: u8, r: Receiver) -> Fed
-    ensures { result ≡ refused_feed n r }
+// The answer after the last turn: the refusal that stops a feed is told if nothing was used.
+pub(crate) fn answer(t: Turn) -> Result<Fed, Refused<Receiver>>
+    ensures { result ≡ answer_of t }
 {
-    Fed {
-        refusal: n,
-        used: 0,
-        receiver: r,
-        events: receiver::told::no_events(),
-        runs: receiver::told::no_runs(),
+    match t.goes {
+        Goes::On => Ok(quiet(t)),
+        Goes::Told(events, runs) => Ok(Fed {
+            used: t.used,
+            receiver: t.receiver,
+            events,
+            runs,
+        }),
+        Goes::Refused(why) => {
+            if t.used == 0 {
+                Err(Refused {
+                    why,
+                    state: t.receiver,
+                })
+            } else {
+                Ok(quiet(t))
+            }
+        }
     }
 }

@@ -1,14 +1,11 @@
 -- What a corrected slot comes out as: specs/Aligned. Each statement stands above its proof. Assumes nothing.
+use Rattle.std.specs.Prelude.{Option, None, Some, Result, Ok, Err}
 use Prim.Native.Nat.{ℕ, zero, suc, ◌+◌, ◌≤◌, ◌<◌, min}
 use Rattle.angles.specs.declared.Symbol.{Symbol}
-use Rattle.eq.specs.declared.Equalised.{Equalised}
-use Rattle.eq.specs.declared.Equalised.TheVariants.{Nothing as NoOutput, Given as Output}
 use Rattle.eq.specs.declared.Equaliser.{Equaliser}
 use Rattle.eq.specs.Eq.{output_at, pushed_eq, started_eq, trained_eq, trains_eq, with_sums}
 use Rattle.eq_fir.specs.Fir.{line_after, no_line, output_of}
 use Rattle.frame.specs.Align.{equalised_by, joined_to, pushed_back, restarted_back, started_back, taken_by, trained_at, trained_part}
-use Rattle.frame.specs.declared.Aligned.{Aligned}
-use Rattle.frame.specs.declared.Aligned.TheVariants.{Nothing, Given}
 use Rattle.frame.specs.declared.AlignedSymbol.{AlignedSymbol}
 use Rattle.frame.specs.declared.Back.{Back}
 use Rattle.frame.specs.declared.Pushed.{Pushed}
@@ -17,8 +14,9 @@ use Rattle.frame_line.proofs.Theorems.{waiting_length}
 use Rattle.frame_line.specs.declared.Meta.{Meta}
 use Rattle.frame_line.specs.Line.{gap_at, joined, meta_of, moved, no_metas}
 use Rattle.frame_line.specs.Waiting.{waiting_of}
+use Rattle.refusal.specs.declared.Refusal.{Refusal}
 use Rattle.frame_map.specs.declared.SlotPart.{SlotPart}
-use Rattle.frame_map.specs.declared.SlotPart.TheVariants.{Sync, Pilot, Main, Tmcc, Refused}
+use Rattle.frame_map.specs.declared.SlotPart.TheVariants.{Sync, Pilot, Main, Tmcc}
 use Rattle.frame_map.specs.Map.{part_of}
 use Rattle.laws.proofs.Lists.{length-firsts}
 use Rattle.laws.proofs.Tests.{by_test, if_both, if_either, never}
@@ -30,13 +28,14 @@ use Rattle.phase.specs.Phase.{corrected_of}
 use Rattle.receiver_slot.specs.declared.Points.{Points}
 use Rattle.receiver_slot.specs.Slot.{aligned_all, aligned_by, corrected_all, no_run, runs_of, taps_for, waiting_before}
 use Rattle.receiver_slot.specs.Aligned.{run_by}
+use Rattle.receiver_slot.proofs.Rest.{line_after_lem}
 use Rattle.receiver_slot.proofs.Aligned.{body_is, firsts_cons, joined_few, run_count, tail-is}
 use Rattle.receiver_laws.specs.Aligned.{BeginsWith, EqualisedAt, Filled, In, RunsAre}
 use Rattle.receiver_laws.specs.Aligned.In.{here, there}
 use borrow.Author.Tests.{lt-ltb, ltb-false, ltb-true}
 use lib.Dec.{ltb}
 use lib.IntN.{ℤ}
-use lib.ListN.{length, length-take, take}
+use lib.ListN.{take}
 use mathlib.Core.Bool.{Bool, false, true}
 use mathlib.Core.List.{List, [], ◌∷◌, ◌++◌}
 use mathlib.Core.Logic.{◌⊎◌, inl, inr, ⊎_elim}
@@ -102,13 +101,13 @@ record Keeps (e d : Equaliser) : Type 0 where
 same : (e : Equaliser) → Keeps e e
 same e = record { line = refl; filled = refl; taps = refl }
 
-trained_keeps : (part : SlotPart) (e : Equaliser) (m : Meta) (f s : List ℤ) → Keeps e (trained_part part e m f s)
+trained_keeps : (part : Result SlotPart Refusal) (e : Equaliser) (m : Meta) (f s : List ℤ) → Keeps e (trained_part part e m f s)
 unfolding trained_part trained_eq with_sums
-trained_keeps (Sync k) e m f s = if_both (Keeps e) (trains_eq e) _ e (record { line = refl; filled = refl; taps = refl }) (same e)
-trained_keeps (Pilot k) e m f s = same e
-trained_keeps (Main k) e m f s = same e
-trained_keeps (Tmcc k) e m f s = same e
-trained_keeps (Refused n) e m f s = same e
+trained_keeps (Ok (Sync k)) e m f s = if_both (Keeps e) (trains_eq e) _ e (record { line = refl; filled = refl; taps = refl }) (same e)
+trained_keeps (Ok (Pilot k)) e m f s = same e
+trained_keeps (Ok (Main k)) e m f s = same e
+trained_keeps (Ok (Tmcc k)) e m f s = same e
+trained_keeps (Err n) e m f s = same e
 
 joined_taps : (b : Back) (at : ℕ) → (joined_to b at).eq.taps ≡ b.eq.taps
 unfolding joined_to restarted_back started_back started_eq
@@ -118,17 +117,13 @@ joined_filled : (b : Back) (at : ℕ) → Filled b → Filled (joined_to b at)
 unfolding joined_to restarted_back started_back started_eq no_line no_metas
 joined_filled b at k = if_both Filled (gap_at b.last at) (restarted_back b) b (record { eleven = refl; few = omega arith; held = omega arith }) k
 
-line_after_lem : (line : List ℤ) (i q : ℤ) → length line ≡ 22 → length (line_after line i q) ≡ 22
-unfolding line_after
-line_after_lem line i q h = omega (arith, h, length-take 20 line)
+is_given : Option AlignedSymbol → Bool
+is_given None = false
+is_given (Some a) = true
 
-is_given : Aligned → Bool
-is_given Nothing = false
-is_given (Given a) = true
-
-value_of : Symbol → Aligned → Symbol
-value_of y Nothing = y
-value_of y (Given a) = a.z
+value_of : Symbol → Option AlignedSymbol → Symbol
+value_of y None = y
+value_of y (Some a) = a.z
 
 -- a symbol that is taken
 module _ (b : Back) (c : Corrected) (f s : List ℤ) where
@@ -149,15 +144,15 @@ module _ (b : Back) (c : Corrected) (f s : List ℤ) where
       (λ l. record { eleven = long; few = omega (arith, ltb-true b.metas.count 5 l); held = omega (arith, k.held, ltb-true b.metas.count 5 l) })
       (λ l. record { eleven = rw t.line long; few = k.few; held = omega (arith, k.held, k.few, t.filled) })
 
-  taken_out : Filled b → (a : AlignedSymbol) → (taken_by b c f s).out ≡ Given a → a.z ≡ output_of b.eq.taps (line_after b.eq.line c.y.i c.y.q)
+  taken_out : Filled b → (a : AlignedSymbol) → (taken_by b c f s).out ≡ Some a → a.z ≡ output_of b.eq.taps (line_after b.eq.line c.y.i c.y.q)
   unfolding taken_by output_at pushed_eq equalised_by is_given value_of
   taken_out k a =
       let o = output_of b.eq.taps (line_after b.eq.line c.y.i c.y.q) in
-      if_either (λ (x : Pushed). x.out ≡ Given a → a.z ≡ o) (ltb b.metas.count 5) _ _
+      if_either (λ (x : Pushed). x.out ≡ Some a → a.z ≡ o) (ltb b.metas.count 5) _ _
       (λ l e. absurd (never (sym (ap is_given e))))
       (λ l e.
       let six = lt-ltb 5 (min (b.eq.filled + 1) 11) (omega (arith, ltb-false b.metas.count 5 l, k.held)) in
-      sym (ap (value_of c.y) e) ∙ ap (λ (u : Equalised). equalised_by u c.y) (if_yes _ (Output o) NoOutput six))
+      sym (ap (value_of c.y) e) ∙ ap (λ (u : Option Symbol). equalised_by u c.y) (if_yes _ (Some o) None six))
 
 pushed_taps : (b : Back) (c : Corrected) (f s : List ℤ) (m : Meta) → taps_for (pushed_back b c f s).back m ≡ taps_for b m
 unfolding taps_for pushed_back
@@ -167,7 +162,7 @@ pushed_filled : (b : Back) (c : Corrected) (f s : List ℤ) → Filled b → Fil
 unfolding pushed_back
 pushed_filled b c f s k = taken-filled (joined_to b c.at) c f s (joined_filled b c.at k)
 
-pushed_out : (b : Back) (c : Corrected) (f s : List ℤ) → Filled b → (a : AlignedSymbol) → (pushed_back b c f s).out ≡ Given a
+pushed_out : (b : Back) (c : Corrected) (f s : List ℤ) → Filled b → (a : AlignedSymbol) → (pushed_back b c f s).out ≡ Some a
     → a.z ≡ output_of (taps_for b a.meta) (line_after (joined_to b c.at).eq.line c.y.i c.y.q)
 unfolding taps_for pushed_back
 pushed_out b c f s k a e =
@@ -175,13 +170,13 @@ pushed_out b c f s k a e =
     ∙ ap (λ (t : List ℤ). output_of t (line_after (joined_to b c.at).eq.line c.y.i c.y.q)) (joined_taps b c.at)
 
 -- an aligned symbol comes out of the first push, or of a later one
-first_or : (o : Aligned) (rest : List AlignedSymbol) (a : AlignedSymbol) → In a (aligned_by o ++ rest) → (o ≡ Given a) ⊎ In a rest
+first_or : (o : Option AlignedSymbol) (rest : List AlignedSymbol) (a : AlignedSymbol) → In a (aligned_by o ++ rest) → (o ≡ Some a) ⊎ In a rest
 unfolding aligned_by
-first_or Nothing rest a i = inr i
-first_or (Given x) rest a here = inl refl
-first_or (Given x) rest a (there i) = inr i
+first_or None rest a i = inr i
+first_or (Some x) rest a here = inl refl
+first_or (Some x) rest a (there i) = inr i
 
-taps_first : (b : Back) (c : Corrected) (cs : List Corrected) (f s : List ℤ) → Filled b → (a : AlignedSymbol) → (pushed_back b c f s).out ≡ Given a → EqualisedAt b (c ∷ cs) f s a
+taps_first : (b : Back) (c : Corrected) (cs : List Corrected) (f s : List ℤ) → Filled b → (a : AlignedSymbol) → (pushed_back b c f s).out ≡ Some a → EqualisedAt b (c ∷ cs) f s a
 unfolding after_all
 taps_first b c cs f s k a e =
     let from = (joined_to b c.at).eq.line in

@@ -4,8 +4,10 @@ use Rattle.demap.proofs.Theorems.{Tells, bits_theorem, demap_theorem}
 use Rattle.demap.specs.Answers.{demap_buffer, demap_refusal}
 use Rattle.demap.specs.Demap.{label_metric, soft_at, soft_bits}
 use Rattle.frame.specs.declared.AlignedSymbol.{AlignedSymbol}
+use Rattle.refusal.specs.declared.Refusal.{Refusal}
+use Rattle.std.specs.Prelude.{Result, Ok, Err}
 use Rattle.frame_map.specs.declared.SlotPart.{SlotPart}
-use Rattle.frame_map.specs.declared.SlotPart.TheVariants.{Sync, Pilot, Main, Tmcc, Refused}
+use Rattle.frame_map.specs.declared.SlotPart.TheVariants.{Sync, Pilot, Main, Tmcc}
 use Rattle.frame_map.specs.Map.{part_of}
 use Rattle.laws.proofs.Linear.{le_ud}
 use Rattle.laws.proofs.Lists.{getD-firsts, length-firsts}
@@ -13,13 +15,14 @@ use Rattle.laws.proofs.Tests.{by_test}
 use Rattle.receiver_slot.specs.declared.Points.{Points}
 use Rattle.receiver_slot.specs.Slot.{points_for, soft_all, soft_of}
 use Rattle.receiver_slot.proofs.Softs as slot
+use Rattle.receiver_slot.proofs.Steps.{soft_append}
 use Rattle.receiver_laws.specs.Softs.{BitTrue, FitClaim, SoftTrue, ValueOf}
 use borrow.Author.Tests.{ltb-false, ltb-true}
 use lib.Dec.{ltb}
 use lib.IntN.{ℤ, pos}
 use lib.ListN.{get_or, length, length-append}
 use lib.Seq.{get_or-append-add}
-use mathlib.Core.List.{List, [], ◌∷◌, ◌++◌, append_assoc}
+use mathlib.Core.List.{List, [], ◌∷◌, ◌++◌}
 use mathlib.Core.Path.{◌∙◌, ◌≡◌, ap, refl, subst, sym}
 use native.Mathlib.Nat.{not-suc-le-zero}
 use native.Mathlib.Omega.{arith}
@@ -29,7 +32,7 @@ told : {yi yq : ℤ} {points : List ℤ} {bits j : ℕ} {v : ℤ} → Tells yi y
 told t = record { within = t.within; positive = t.zero_bit; negative = t.one_bit }
 
 -- ---- OF A SINGLE DEMAP each value is true
-pub bit_true : (yi yq : ℤ) (points : List ℤ) (bits : ℕ) (k : ℤ) (out : List ℤ) → demap_refusal bits (length points) k (length out) ≡ 0 →
+pub bit_true : (yi yq : ℤ) (points : List ℤ) (bits : ℕ) (k : ℤ) (out : List ℤ) → demap_refusal bits (length points) k (length out) ≡ Ok tt →
     (j : ℕ) → j < bits → BitTrue bits points yi yq j (get_or (demap_buffer yi yq points bits k out) j (pos 0))
 bit_true yi yq points bits k out e j h = told (demap_theorem yi yq points bits k out e j h)
 
@@ -49,12 +52,12 @@ further p a b rest place i vs e h t =
     }
 
 -- only a main symbol has values
-own : (p : Points) (a : AlignedSymbol) (rest : List AlignedSymbol) (i : ℕ) (part : SlotPart) → part_of a.meta.j ≡ part
+own : (p : Points) (a : AlignedSymbol) (rest : List AlignedSymbol) (i : ℕ) (part : Result SlotPart Refusal) → part_of a.meta.j ≡ part
     → i < length (soft_of part (points_for p a.meta) a.z) → ValueOf p (a ∷ rest) a i i
 unfolding soft_of soft_bits soft_all
-own p a rest i (Sync k) e h = absurd (not-suc-le-zero h)
-own p a rest i (Pilot k) e h = absurd (not-suc-le-zero h)
-own p a rest i (Main m) e h =
+own p a rest i (Ok (Sync k)) e h = absurd (not-suc-le-zero h)
+own p a rest i (Ok (Pilot k)) e h = absurd (not-suc-le-zero h)
+own p a rest i (Ok (Main m)) e h =
     let q = points_for p a.meta in
     record {
       before = [];
@@ -65,8 +68,8 @@ own p a rest i (Main m) e h =
       below = omega (arith, h, length-firsts (soft_at (label_metric a.z.i a.z.q q.points) q.bits (pos q.k)) q.bits);
       index = omega arith;
     }
-own p a rest i (Tmcc k) e h = absurd (not-suc-le-zero h)
-own p a rest i (Refused n) e h = absurd (not-suc-le-zero h)
+own p a rest i (Ok (Tmcc k)) e h = absurd (not-suc-le-zero h)
+own p a rest i (Err n) e h = absurd (not-suc-le-zero h)
 
 record Valued (p : Points) (given : List AlignedSymbol) (i : ℕ) : Type 0 where
   of : AlignedSymbol
@@ -86,15 +89,8 @@ valued p (a ∷ rest) i h =
     record { of = v.of; place = v.place; value_of = further p a v.of rest v.place i vs (λ l. refl) l v.value_of })
 
 -- ---- and it is true of the bit that it is the value of
-soft_append : (p : Points) (xs ys : List AlignedSymbol) → soft_all p (xs ++ ys) ≡ soft_all p xs ++ soft_all p ys
-unfolding soft_all
-soft_append p [] ys = refl
-soft_append p (x ∷ xs) ys =
-    ap (λ (l : List ℤ). soft_of (part_of x.meta.j) (points_for p x.meta) x.z ++ l) (soft_append p xs ys)
-    ∙ sym (append_assoc (soft_of (part_of x.meta.j) (points_for p x.meta) x.z) (soft_all p xs) (soft_all p ys))
-
 -- a value of the first symbol, which is a main one
-first : (p : Points) (a : AlignedSymbol) (rest : List AlignedSymbol) (j m : ℕ) → part_of a.meta.j ≡ Main m → j < (points_for p a.meta).bits →
+first : (p : Points) (a : AlignedSymbol) (rest : List AlignedSymbol) (j m : ℕ) → part_of a.meta.j ≡ Ok (Main m) → j < (points_for p a.meta).bits →
     BitTrue (points_for p a.meta).bits (points_for p a.meta).points a.z.i a.z.q j (get_or (soft_all p (a ∷ rest)) j (pos 0))
 unfolding soft_all soft_of soft_bits
 first p a rest j m e h =

@@ -1,28 +1,28 @@
 -- A symbol's call does not see what its slot store holds beyond the held slot's symbols. Assumes nothing.
+use Rattle.std.specs.Prelude.{Option, None, Some, Result, Ok, Err, ⊤}
+use Rattle.refusal.specs.Refusals.{answered, written}
+use Rattle.refusal.specs.declared.Refusal.{Refusal}
+use Rattle.phase.specs.declared.Held.{Held}
+use Rattle.phase.specs.declared.WholeSlot.{WholeSlot}
 use Prim.Native.Nat.{ℕ, zero, suc, ◌+◌, ◌<◌}
-use Rattle.laws.proofs.Tests.{by_test, if_ap}
+use Rattle.laws.proofs.Tests.{by_test}
 use Rattle.laws.specs.Choice.{if_no, if_yes, when◌then◌else◌}
 use Rattle.laws.specs.Ranges.{firsts}
-use Rattle.phase.specs.declared.Due.{Due}
-use Rattle.phase.specs.declared.Due.TheVariants.{Nothing as NoSlot, Slot}
-use Rattle.phase.specs.declared.SlotPhase.{SlotPhase}
 use Rattle.phase.specs.Phase.{begun_of, corrected_of, due_in, pushed_in, stored_in}
 use Rattle.phase_range.proofs.Theorems.{agree_pushed, corrected_alike, length_stored}
 use Rattle.phase_range.specs.Calls.{AgreeOn}
-use Rattle.receiver.specs.declared.Answer.{Answer}
 use Rattle.receiver.specs.declared.Receiver.{Receiver}
 use Rattle.receiver_slot.specs.Slot.{corrected_all, due_symbols}
 use Rattle.receiver.specs.Started.{kept_of, started}
 use Rattle.receiver.specs.Symbol.{Input, Lent, aligned, acc_after, back23, enough, full, heads, left, lent_after, lost, next_of, past, receiver_after, rotated, runs, slot, soft_after, store_after, sync_left, synced, window}
-use Rattle.receiver.specs.Answers.{no_runs, stores_fit, symbol_answer, symbol_lent, symbol_refusal}
+use Rattle.receiver.specs.Answers.{accepted_symbol, receiver_left, stores_fit, symbol_answer, symbol_lent, symbol_refusal}
 use Rattle.receiver_laws.specs.Stores.{Agree, Alike, lent}
 use Rattle.receiver_laws.proofs.Heads.{From, events_from, untouched, begun}
 use Rattle.sync_heads.specs.declared.Head.{Head}
-use Rattle.sync_step.specs.Events.{no_events}
-use lib.Dec.{eqb, lit≤}
+use lib.Dec.{lit≤}
 use lib.IntN.{ℤ}
 use mathlib.Core.List.{List}
-use mathlib.Core.Path.{◌∙◌, ◌≡◌, ap, ap₂, refl, sym}
+use mathlib.Core.Path.{◌∙◌, ◌≡◌, ap₂, refl, sym}
 use native.Mathlib.Nat.{not-suc-le-zero}
 use native.Mathlib.Omega.{arith}
 
@@ -32,19 +32,24 @@ firsts_same f g zero h = refl
 firsts_same f g (suc n) h = rw (firsts_same f g n (λ j l. h j (omega arith)), h n (omega arith))
 
 -- the symbols of a slot that a head makes due
-due_same : (d : Due) (p : SlotPhase) (h : Head) (table a b : List ℤ) → AgreeOn p a b → d ≡ due_in 9296 p h → due_symbols 9296 d table a ≡ due_symbols 9296 d table b
+due_same : (d : Option WholeSlot) (p : Option Held) (h : Head) (table a b : List ℤ) → AgreeOn p a b → d ≡ due_in 9296 p h → due_symbols 9296 d table a ≡ due_symbols 9296 d table b
 unfolding due_symbols corrected_all
-due_same NoSlot p h table a b g e = refl
-due_same (Slot w) p h table a b g e =
+due_same None p h table a b g e = refl
+due_same (Some w) p h table a b g e =
     firsts_same (corrected_of w table a) (corrected_of w table b) 9296 (λ j l. corrected_alike p h w j table a b g (sym e) l)
 
-none-same : (table a b : List ℤ) → due_symbols 9296 NoSlot table a ≡ due_symbols 9296 NoSlot table b
+none-same : (table a b : List ℤ) → due_symbols 9296 None table a ≡ due_symbols 9296 None table b
 unfolding due_symbols
 none-same table a b = refl
 
 agree_begun : (q : Head) (a b : List ℤ) → AgreeOn (begun_of q) a b
 unfolding begun_of
 agree_begun q a b = λ k l. absurd (not-suc-le-zero l)
+
+-- a part of what is lent, written or not
+part_written : {A : Type 0} (f : Lent → A) (t : Result ⊤ Refusal) (old new : Lent) → f (written t old new) ≡ written t (f old) (f new)
+part_written f (Ok y) old new = refl
+part_written f (Err why) old new = refl
 
 module _ (r : Receiver) (x : Input) (acc : List ℕ) (soft a b : List ℤ) (g : Agree r.front.phase a b) where
   abbrev la : Lent
@@ -145,39 +150,31 @@ module _ (r : Receiver) (x : Input) (acc : List ℕ) (soft a b : List ℤ) (g : 
       (λ t. rw (if_no q s l t, if_no q a u t, if_no q b v t) agree_left)
 
   answer-same : symbol_answer r x la ≡ symbol_answer r x lb
-  unfolding symbol_answer
+  unfolding symbol_answer accepted_symbol
   answer-same = rw (refusal-same, receiver-same, events-same, runs_same)
 
   lent-acc : (symbol_lent r x la).acc ≡ (symbol_lent r x lb).acc
   unfolding symbol_lent lent_after
   lent-acc =
-      let n = symbol_refusal r x la in
-      let m = symbol_refusal r x lb in
-      if_ap (λ (l : Lent). l.acc) (eqb n 0) (lent_after 9296 r x la) la
-      ∙ ap₂ (λ (k : ℕ) (v : List ℕ). when eqb k 0 then v else acc) refusal-same acc-same
-      ∙ sym (if_ap (λ (l : Lent). l.acc) (eqb m 0) (lent_after 9296 r x lb) lb)
+      part_written (λ (l : Lent). l.acc) (symbol_refusal r x la) la (lent_after 9296 r x la)
+      ∙ ap₂ (λ (t : Result ⊤ Refusal) (v : List ℕ). written t acc v) refusal-same acc-same
+      ∙ sym (part_written (λ (l : Lent). l.acc) (symbol_refusal r x lb) lb (lent_after 9296 r x lb))
 
   lent-soft : (symbol_lent r x la).soft ≡ (symbol_lent r x lb).soft
   unfolding symbol_lent lent_after
   lent-soft =
-      let n = symbol_refusal r x la in
-      let m = symbol_refusal r x lb in
-      if_ap (λ (l : Lent). l.soft) (eqb n 0) (lent_after 9296 r x la) la
-      ∙ ap₂ (λ (k : ℕ) (v : List ℤ). when eqb k 0 then v else soft) refusal-same soft-same
-      ∙ sym (if_ap (λ (l : Lent). l.soft) (eqb m 0) (lent_after 9296 r x lb) lb)
+      part_written (λ (l : Lent). l.soft) (symbol_refusal r x la) la (lent_after 9296 r x la)
+      ∙ ap₂ (λ (t : Result ⊤ Refusal) (v : List ℤ). written t soft v) refusal-same soft-same
+      ∙ sym (part_written (λ (l : Lent). l.soft) (symbol_refusal r x lb) lb (lent_after 9296 r x lb))
 
-  lent-agree : Agree (symbol_answer r x la).receiver.front.phase (symbol_lent r x la).store (symbol_lent r x lb).store
-  unfolding symbol_answer symbol_lent lent_after
-  lent-agree =
-      let n = symbol_refusal r x la in
-      let m = symbol_refusal r x lb in
-      let ra : Answer = record { refusal = 0; receiver = receiver_after 9296 r x la; events = (synced 9296 r x la).events; runs = runs 9296 r x la } in
-      let rn : Answer = record { refusal = n; receiver = r; events = no_events; runs = no_runs } in
-      by_test (eqb n 0)
-      (λ t.
-      rw (if_yes (eqb n 0) ra rn t, if_yes (eqb n 0) (lent_after 9296 r x la) la t, if_yes (eqb m 0) (lent_after 9296 r x lb) lb (ap (λ (k : ℕ). eqb k 0) (sym refusal-same) ∙ t)) agree_after)
-      (λ t.
-      rw (if_no (eqb n 0) ra rn t, if_no (eqb n 0) (lent_after 9296 r x la) la t, if_no (eqb m 0) (lent_after 9296 r x lb) lb (ap (λ (k : ℕ). eqb k 0) (sym refusal-same) ∙ t)) g)
+  agree_by : (t : Result ⊤ Refusal) → Agree (receiver_left (answered t r (accepted_symbol r x la))).front.phase (written t la (lent_after 9296 r x la)).store (written t lb (lent_after 9296 r x lb)).store
+  unfolding accepted_symbol lent_after
+  agree_by (Ok y) = agree_after
+  agree_by (Err why) = g
+
+  lent-agree : Agree (receiver_left (symbol_answer r x la)).front.phase (symbol_lent r x la).store (symbol_lent r x lb).store
+  unfolding symbol_answer symbol_lent
+  lent-agree = rw (sym refusal-same) (agree_by (symbol_refusal r x la))
 
   pub alike : Alike r x acc soft a b
-  alike = record { answer = answer-same; acc_is = lent-acc; soft_is = lent-soft; agree = lent-agree }
+  alike = record { refusal = refusal-same; answer = answer-same; acc_is = lent-acc; soft_is = lent-soft; agree = lent-agree }

@@ -1,8 +1,7 @@
 -- What a corrected slot comes out as: which symbols, with which taps, told as which runs.
-use Rattle.std.specs.Prelude.{◌≤◌, ◌<◌, ℤ, length, List, ◌∷◌, ◌++◌, ◌≡◌}
+use Rattle.std.specs.Prelude.{◌≤◌, ◌<◌, ℤ, length, List, ◌∷◌, ◌++◌, ◌≡◌, Some}
 use Rattle.eq_fir.specs.Fir.{line_after, output_of}
 use Rattle.frame.specs.Align.{joined_to, pushed_back}
-use Rattle.frame.specs.declared.Aligned.TheVariants.{Given}
 use Rattle.frame.specs.declared.AlignedSymbol.{AlignedSymbol}
 use Rattle.frame.specs.declared.Back.{Back}
 use Rattle.frame.specs.Stretch.{after_all}
@@ -51,7 +50,7 @@ pub record EqualisedAt (b : Back) (cs : List Corrected) (f s : List ℤ) (a : Al
   pub c : Corrected
   pub after : List Corrected
   pub in_turn : cs ≡ before ++ c ∷ after
-  pub out : (pushed_back (after_all b before f s) c f s).out ≡ Given a
+  pub out : (pushed_back (after_all b before f s) c f s).out ≡ Some a
   pub line : List ℤ
   pub line_is : line ≡ line_after (joined_to (after_all b before f s) c.at).eq.line c.y.i c.y.q
   pub eleven : length line ≡ 22

@@ -1,5 +1,5 @@
 -- What the soft bits of a call say of its aligned symbols.
-use Rattle.std.specs.Prelude.{ℕ, ◌+◌, ◌-◌, ◌^◌, ◌≤◌, ◌<◌, List, ◌∷◌, ◌++◌, ◌≡◌, ℤ, pos, nat_abs, get_or, length, ◌<ℤ◌}
+use Rattle.std.specs.Prelude.{ℕ, ◌+◌, ◌-◌, ◌^◌, ◌≤◌, ◌<◌, List, ◌∷◌, ◌++◌, ◌≡◌, ℤ, pos, nat_abs, get_or, length, ◌<ℤ◌, Ok}
 use Rattle.demap.specs.Demap.{Nearest, bit_of}
 use Rattle.frame_map.specs.declared.SlotPart.TheVariants.{Main}
 use Rattle.frame_map.specs.Map.{part_of}
@@ -25,7 +25,7 @@ pub record ValueOf (p : Points) (given : List AlignedSymbol) (a : AlignedSymbol)
   pub after : List AlignedSymbol
   pub in_turn : given ≡ before ++ (a ∷ after)
   pub main : ℕ
-  pub is_main : part_of a.meta.j ≡ Main main
+  pub is_main : part_of a.meta.j ≡ Ok (Main main)
   pub below : place < (points_for p a.meta).bits
   pub index : i ≡ length (soft_all p before) + place
 

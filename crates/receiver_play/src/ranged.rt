@@ -2,28 +2,11 @@
 ghost use Rattle.std.specs.Prelude.{◌≡◌, ◌≤◌, ◌<◌};
 ghost use Rattle.receiver.specs.Answers.{symbol_answer, symbol_lent};
 ghost use Rattle.receiver.specs.Feed.{input_at};
-ghost use Rattle.receiver_play.specs.Play.{block, lent_of, stopped, play_from};
+ghost use Rattle.receiver_play.specs.Play.{block, lent_of, play_from};
 
-use crate::{still, stops};
+use crate::{Played, refused_at, still, taken_at};
 use receiver::{Answer, Receiver};
-use receiver_feed::Fed;
-
-// The answer after i symbols taken.
-fn stop(a: Answer, i: usize) -> Fed
-    requires { i < 72 }
-    ensures { result ≡ stopped i a }
-{
-    let r = a.receiver;
-    let e = a.events;
-    let w = a.runs;
-    Fed {
-        refusal: a.refusal,
-        used: if a.refusal == 0 { i + 1 } else { i },
-        receiver: r,
-        events: e,
-        runs: w,
-    }
-}
+use refusal::Refused;
 
 // Symbol i of the block.
 fn one(
@@ -36,7 +19,7 @@ fn one(
     acc: &mut [u32],
     store: &mut [i16],
     soft: &mut [i8],
-) -> Answer
+) -> Result<Answer, Refused<Receiver>>
     requires { i < 72 }
     ensures { (result ≡ symbol_answer r (input_at (block x.now f s table.now) i) (lent_of acc.old store.old soft.old))
         × (lent_of acc.new store.new soft.new ≡ symbol_lent r (input_at (block x.now f s table.now) i) (lent_of acc.old store.old soft.old)) }
@@ -55,20 +38,24 @@ pub fn play(
     acc: &mut [u32],
     store: &mut [i16],
     soft: &mut [i8],
-) -> Fed
+) -> Played
     requires { n ≤ 72 }
     ensures { (result ≡ (play_from (block x.now f s table.now) n 0 r (lent_of acc.old store.old soft.old)).told)
         × (lent_of acc.new store.new soft.new ≡ (play_from (block x.now f s table.now) n 0 r (lent_of acc.old store.old soft.old)).lent) }
 {
     let mut q = r;
-    let mut i: usize = 0;
-    while i < n {
-        let a = one(q, i, x, f, s, table, acc, store, soft);
-        if stops(a) {
-            return stop(a, i);
+    for i in 0..n {
+        match one(q, i, x, f, s, table, acc, store, soft) {
+            Ok(a) => {
+                if receiver::told::tells(a) {
+                    return taken_at(a, i + 1);
+                }
+                q = a.receiver;
+            }
+            Err(refused) => {
+                return refused_at(refused, i);
+            }
         }
-        q = a.receiver;
-        i += 1;
     }
-    still(q, i)
+    still(q, n)
 }

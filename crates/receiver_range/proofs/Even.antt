@@ -1,4 +1,6 @@
 -- Angles of the CORDIC are even, and so is the turn from one to another. Assumes nothing.
+use Rattle.std.specs.Prelude.{Option, None, Some}
+use Rattle.carrier.specs.declared.Steps.{Steps}
 use Prim.Native.Nat.{ℕ, zero, suc, ◌+◌, ◌-◌, ◌*◌, ◌%◌, ◌^◌, ◌≤◌}
 use mathlib.Core.Bool.{Bool, true, ◌&&◌}
 use mathlib.Core.List.{List, [], ◌∷◌}
@@ -20,9 +22,7 @@ use Rattle.sync_heads.specs.declared.Word.{Word}
 use Rattle.sync_heads.specs.declared.Word.TheVariants.{Ssync, Fsync, NotFsync}
 use Rattle.carrier.specs.declared.Heard.{Heard}
 use Rattle.carrier.specs.declared.Nco.{Nco}
-use Rattle.carrier.specs.declared.Trail.{Trail}
-use Rattle.carrier.specs.declared.Trail.TheVariants.{Empty, Since}
-use Rattle.carrier.specs.Carrier.{ssync_heard, trail_heard, word_heard, heard_of}
+use Rattle.carrier.specs.Carrier.{since_head, ssync_heard, trail_heard, word_heard, heard_of}
 use Rattle.carrier.proofs.Kept.{word_coherent}
 use Rattle.receiver_range.specs.Coherent.{NcoFits, TrailEven}
 
@@ -94,12 +94,12 @@ none_yet : pos 0 ≤ℤ pos (0 * (2 ^ 31 - 2))
 none_yet = le_ud (pos 0) (pos (0 * (2 ^ 31 - 2))) (omega arith)
 
 word_even : (n : Nco) (w : Word) (theta : ℕ) → theta % 2 ≡ 0 → TrailEven n.trail → TrailEven (word_heard n w theta).nco.trail
-unfolding word_heard trail_heard ssync_heard
+unfolding word_heard trail_heard ssync_heard since_head
 word_even n Ssync theta h k = go n.trail k
   where
-    go : (t : Trail) → TrailEven t → TrailEven (trail_heard n t theta).nco.trail
-    go Empty e = record { last = h; high = none_yet }
-    go (Since s) e =
+    go : (t : Option Steps) → TrailEven t → TrailEven (trail_heard n t theta).nco.trail
+    go None e = record { last = h; high = none_yet }
+    go (Some s) e =
         if_both (λ (x : Heard). TrailEven x.nco.trail) _ _ _
         (record { last = h; high = more s.sum (turn_from s.last_ss theta) s.steps e.high (turn_even s.last_ss theta e.last h) })
         (record { last = h; high = none_yet })

@@ -1,5 +1,8 @@
 -- The events of one symbol: its heads are heard, and period and loss change nothing; where no loss is told, the sync runs on with its lock.
 -- Assumes nothing.
+use Rattle.sync_heads.specs.declared.FrameHead.{FrameHead}
+use Rattle.std.specs.Prelude.{Option, None, Some}
+use Rattle.sync_heads.specs.declared.Head.{Head as HeadTold}
 use Prim.Native.Nat.{ℕ, ◌+◌}
 use mathlib.Core.Bool.{Bool, true, false, ◌||◌}
 use mathlib.Core.Path.{◌≡◌, refl, sym, ap, subst, ◌∙◌}
@@ -14,9 +17,6 @@ use Rattle.sync_lock.specs.declared.Tally.{Tally}
 use Rattle.sync_lock.specs.declared.Verdict.{Verdict}
 use Rattle.sync_lock.specs.Period.{leak_of}
 use Rattle.sync_lock.specs.Rule.{rule_of, held_of, lock_after}
-use Rattle.sync_heads.specs.declared.Headed.{Headed}
-use Rattle.sync_heads.specs.declared.Headed.TheVariants.{Nothing as NoHead, One as OneHead}
-use Rattle.sync_heads.specs.declared.Record.{Record}
 use Rattle.sync_heads.specs.declared.Taken.{Taken}
 use Rattle.sync_step.specs.declared.Event.{Event}
 use Rattle.sync_step.specs.declared.Event.TheVariants.{Nothing, Head, Period, Lost}
@@ -91,10 +91,10 @@ then_loses es at =
     (if_both (λ (x : Events). loses_in x ≡ true) _ _ _ (or_second (is_lost es.first) (is_lost Nothing)) (or_third (is_lost es.first) (is_lost es.second)))
 
 -- .. and stays with a period behind it, where there was room
-end_loses : (a : Headed) (at : ℕ) (p : SyncStats) → loses_in (then_of (then_of (record { first = event_of a; second = Nothing; third = Nothing }) (Lost at)) (Period p)) ≡ true
+end_loses : (a : Option HeadTold) (at : ℕ) (p : SyncStats) → loses_in (then_of (then_of (record { first = event_of a; second = Nothing; third = Nothing }) (Lost at)) (Period p)) ≡ true
 unfolding event_of then_of loses_in is_lost is_nothing when◌then◌else◌
-end_loses NoHead at p = refl
-end_loses (OneHead h) at p = refl
+end_loses None at p = refl
+end_loses (Some h) at p = refl
 
 -- ---- the lock goes on
 abbrev pub Stays : Lock → Lock → Type 0
@@ -146,7 +146,7 @@ heads_third : (k : Taken) → Silent (heads_of k).third
 unfolding heads_of
 heads_third k = no_silent
 
-lost_result : (r : Run) (k : Taken) (at : ℕ) (last : Record) → Result r k (lost_of at last (heads_of k))
+lost_result : (r : Run) (k : Taken) (at : ℕ) (last : Option FrameHead) → Result r k (lost_of at last (heads_of k))
 unfolding lost_of
 lost_result r k at last =
     record {
@@ -154,11 +154,11 @@ lost_result r k at last =
       kept = λ e. absurd (never (sym (then_loses (heads_of k) at) ∙ e));
     }
 
-heads_lose : (k : Taken) (at : ℕ) (p : SyncStats) → k.second ≡ NoHead → loses_in (then_of (then_of (heads_of k) (Lost at)) (Period p)) ≡ true
+heads_lose : (k : Taken) (at : ℕ) (p : SyncStats) → k.second ≡ None → loses_in (then_of (then_of (heads_of k) (Lost at)) (Period p)) ≡ true
 unfolding heads_of event_of
 heads_lose k at p z = rw z (end_loses k.first at p)
 
-lost_end_result : (r : Run) (k : Taken) (at : ℕ) (last : Record) → k.second ≡ NoHead → Result r k (lost_at_end at last (heads_of k))
+lost_end_result : (r : Run) (k : Taken) (at : ℕ) (last : Option FrameHead) → k.second ≡ None → Result r k (lost_at_end at last (heads_of k))
 unfolding lost_at_end lost_of
 lost_end_result r k at last z =
     record {
@@ -187,7 +187,7 @@ ended_result r k p a last e =
 
 -- the head that loses is not told
 pub late_result : (r : Run) (b : Both) (a : ℕ) →
-    ((taken_of 9296 r (place_of 9296 r.t) b).lost ≡ true → (taken_of 9296 r (place_of 9296 r.t) b).second ≡ NoHead) →
+    ((taken_of 9296 r (place_of 9296 r.t) b).lost ≡ true → (taken_of 9296 r (place_of 9296 r.t) b).second ≡ None) →
     Result r (taken_of 9296 r (place_of 9296 r.t) b) (late_of 9296 r b a)
 unfolding late_of
 late_result r b a h =

@@ -1,4 +1,6 @@
 -- What is coherent is in range: docs/RANGES.md, "Receiver". Assumes nothing.
+use Rattle.std.specs.Prelude.{Option, None, Some}
+use Rattle.carrier.specs.declared.Steps.{Steps}
 use Prim.Native.Nat.{ℕ, suc, ◌+◌, ◌*◌, ◌-◌, ◌%◌, ◌^◌, ◌≤◌, ◌<◌}
 use mathlib.Core.Bool.{Bool, true, ◌&&◌, ◌||◌}
 use mathlib.Core.List.{List, [], ◌∷◌}
@@ -16,8 +18,6 @@ use Rattle.laws.specs.Choice.{when◌then◌else◌, minus}
 use Rattle.laws.proofs.Linear.{le_ud, neg_ud, ud_le}
 use Rattle.laws.proofs.Tests.{and_both, if_either}
 use Rattle.carrier.specs.declared.Nco.{Nco}
-use Rattle.carrier.specs.declared.Trail.{Trail}
-use Rattle.carrier.specs.declared.Trail.TheVariants.{Empty, Since}
 use Rattle.carrier.specs.Coherent.{TrailFits}
 use Rattle.sync_corr.specs.Correlate.{at}
 use Rattle.sync_corr.specs.Rows.{Bounded}
@@ -37,8 +37,6 @@ use Rattle.sync_range.proofs.Tally.{running_most}
 use Rattle.sync_range.proofs.Within.{coherent_in_range as sync-in-range}
 use Rattle.sync_range.proofs.Theorems.{rotated_short, rotated-figures}
 use Rattle.phase.specs.declared.Held.{Held}
-use Rattle.phase.specs.declared.SlotPhase.{SlotPhase}
-use Rattle.phase.specs.declared.SlotPhase.TheVariants.{Idle, Holds}
 use Rattle.sums.specs.declared.Sums.{Sums}
 use Rattle.eq_train.specs.Sound.{SumsSound}
 use Rattle.eq_train.proofs.Theorems.{sound_upper}
@@ -137,17 +135,17 @@ head-within h low high f =
       even_is h.theta f.even,
     )
 
-phase_within_lem : (r : Run) (s : SlotPhase) → (0 < r.t → r.base + r.t ≤ 2 ^ 62) → PhaseFits r s → phase_within s ≡ true
+phase_within_lem : (r : Run) (s : Option Held) → (0 < r.t → r.base + r.t ≤ 2 ^ 62) → PhaseFits r s → phase_within s ≡ true
 unfolding phase_within held_within
-phase_within_lem r Idle time h = refl
-phase_within_lem r (Holds x) time h =
+phase_within_lem r None time h = refl
+phase_within_lem r (Some x) time h =
     rw (head-within x.head (held_low r x h) (held_high r x time h) h.head, within_is 1 9296 x.count (omega (arith, h.some)) (omega (arith, h.few)))
 
 -- ---- carrier
-trail_within_lem : (t : Trail) → TrailFits t → TrailEven t → trail_within t ≡ true
+trail_within_lem : (t : Option Steps) → TrailFits t → TrailEven t → trail_within t ≡ true
 unfolding trail_within steps_within
-trail_within_lem Empty f e = refl
-trail_within_lem (Since s) f e =
+trail_within_lem None f e = refl
+trail_within_lem (Some s) f e =
     rw (
       le-leb s.steps 59 f.few,
       is_true (le_z (minus 126701535232) s.sum) (le_ud (minus 126701535232) s.sum (omega (arith, f.few, ud_le f.low, neg_ud (pos (s.steps * 2147483648))))).le,
@@ -212,17 +210,17 @@ adjoins_within a b high j c r g =
     )
     (within_is 55775 (2 ^ 62 - 25) j.before (omega (arith, j.next, j.low)) (omega (arith, j.next, high)))
 
-back_within_lem : (r : Run) (s : SlotPhase) (b : Back) → (0 < r.t → r.base + r.t ≤ 2 ^ 62) → PhaseFits r s → BackFits s b → CoherentEq b.eq →
+back_within_lem : (r : Run) (s : Option Held) (b : Back) → (0 < r.t → r.base + r.t ≤ 2 ^ 62) → PhaseFits r s → BackFits s b → CoherentEq b.eq →
     (b.eq.opened ≡ true → RightFits b.eq.sums) → (b.eq.opened ≡ true → CountFits b) → back_within b ≡ true
 back_within_lem r s b time h f c g k = go s h f
   where
     few : b.eq.opened ≡ true → b.eq.sums.count ≤ 4194288
     few o = few_trained b.eq.sums.count (k o).slots (c.open_sums o).count (k o).count
 
-    go : (s : SlotPhase) → PhaseFits r s → BackFits s b → back_within b ≡ true
-    go Idle h f = untouched_within b f c g few
-    go (Holds x) h (inl f) = untouched_within b f c g few
-    go (Holds x) h (inr f) = adjoins_within x.head.at b (held_high r x time h) f c g few
+    go : (s : Option Held) → PhaseFits r s → BackFits s b → back_within b ≡ true
+    go None h f = untouched_within b f c g few
+    go (Some x) h (inl f) = untouched_within b f c g few
+    go (Some x) h (inr f) = adjoins_within x.head.at b (held_high r x time h) f c g few
 
 -- ---- all
 points-within : (p : Points) → PointsFit p → points_within p ≡ true

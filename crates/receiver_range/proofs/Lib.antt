@@ -1,4 +1,5 @@
 -- The joint invariant is kept by every call.
+pub mod Codes
 pub mod InRange
 pub mod Starts
 pub mod Push

@@ -1,18 +1,18 @@
 -- What one corrected symbol of a slot makes of the alignment: who waits, how full the line is, whether it trains, and what stays true of the
 -- equaliser. Assumes nothing.
+use Rattle.std.specs.Prelude.{Some}
 use Prim.Native.Nat.{ℕ, suc, ◌+◌, ◌-◌, ◌*◌, ◌/◌, ◌%◌, ◌≤◌, ◌<◌, min}
-use mathlib.Core.Bool.{Bool, true, false, not, ◌&&◌}
-use mathlib.Core.List.{List, [], ◌∷◌}
+use mathlib.Core.Bool.{true, false, not}
+use mathlib.Core.List.{List}
 use mathlib.Core.Logic.{◌⊎◌, inl, inr}
 use mathlib.Core.Path.{◌≡◌, refl, sym, ap, subst, ◌∙◌}
 use native.Mathlib.Nat.{mul-le-mul}
 use native.Mathlib.Omega.{arith}
-use borrow.Author.Tests.{eq-eqb, eqb-true, eqb-false, le-leb, lt-leb, leb-true, leb-false, lt-ltb, le-ltb, ltb-true, ltb-false}
+use borrow.Author.Tests.{eq-eqb, eqb-true, eqb-false, le-leb, lt-leb, leb-true, leb-false, lt-ltb, ltb-true, ltb-false}
 use lib.Dec.{eqb, leb, ltb}
 use lib.IntN.{ℤ, pos, nat_abs, ◌*ℤ◌}
 use mir.Syntax.{w16}
 use mir.Val.{SFits}
-use Rattle.laws.specs.Choice.{when◌then◌else◌}
 use Rattle.laws.proofs.Tests.{by_test, and_both, if_either}
 use Rattle.laws.proofs.Size.{abs_add, abs_sub, abs_mul, abs_neg, arg, sfits_abs}
 use Rattle.sync_corr.specs.Correlate.{ones_of}
@@ -26,21 +26,19 @@ use Rattle.eq_train.proofs.Laws.{trained-right-re, trained-right-im, trained-lon
 use Rattle.eq_train.proofs.Theorems.{train_sound}
 use Rattle.eq.specs.declared.Equaliser.{Equaliser}
 use Rattle.eq.specs.Eq.{pushed_eq, trains_eq, trained_eq, with_sums}
-use Rattle.eq.proofs.Laws.{and_true}
+use Rattle.eq_train.proofs.Tested.{and_true}
 use Rattle.eq_range.specs.Coherent.{Coherent as CoherentEq}
 use Rattle.eq_range.proofs.Kept.{pushed_coherent, open_coherent, trains_open}
 use Rattle.frame_map.specs.Map.{part_of}
 use Rattle.frame_map.specs.Reference.{scaled_of, reference_of}
 use Rattle.frame_map.proofs.Laws.{part_sync, entry-one}
 use Rattle.frame_line.specs.declared.Meta.{Meta}
-use Rattle.frame_line.specs.declared.LastAt.TheVariants.{At}
 use Rattle.frame_line.specs.Line.{meta_of, placed_at, joined, moved, gap_at}
 use Rattle.frame.specs.declared.Back.{Back}
-use Rattle.frame.specs.Align.{is_sync, trained_part, trained_at, taken_by, pushed_back}
+use Rattle.frame.specs.Align.{is_sync, trained_part, trained_at, pushed_back}
 use Rattle.frame.specs.Answers.{trains_back, full_back}
-use Rattle.frame.specs.Stretch.{after_all, unbroken, trained_in}
 use Rattle.frame.proofs.Laws.{sync_places, untrained}
-use Rattle.frame.proofs.Theorems.{no_gap, count_theorem}
+use Rattle.receiver_slot.proofs.Filling.{few_pushed, five_pushed, no_line_lem, no_sync, not_sync}
 use Rattle.frame_range.specs.Coherent.{Short}
 use Rattle.frame_range.proofs.Theorems.{trained_filled}
 use Rattle.receiver_range.specs.Coherent.{Untouched, Waits, Adjoins, right_most, RightFits}
@@ -64,7 +62,7 @@ pub record Filling (at c₀ f₀ n : ℕ) (b : Back) : Type 0 where
   pub count : b.metas.count ≡ min (c₀ + n) 5
   pub filled : b.eq.filled ≡ min (f₀ + n) 11
   pub follows : gap_at b.last (at + n) ≡ false
-  pub last : (k : ℕ) → n ≡ suc k → b.last ≡ At (at + k)
+  pub last : (k : ℕ) → n ≡ suc k → b.last ≡ Some (at + k)
   pub first : 0 < b.metas.count → Place at (n + 5 - b.metas.count + 0) b.metas.first
   pub second : 1 < b.metas.count → Place at (n + 5 - b.metas.count + 1) b.metas.second
   pub third : 2 < b.metas.count → Place at (n + 5 - b.metas.count + 2) b.metas.third
@@ -95,21 +93,6 @@ joined-place at n c i m old h p q l =
 moved-place : (at n c i : ℕ) (m : Meta) → (suc i < c → Place at (n + 5 - c + suc i) m) → c ≡ 5 → i < 4 → Place at (suc n + 5 - c + i) m
 moved-place at n c i m q e l = place_is at (n + 5 - c + suc i) (suc n + 5 - c + i) m (omega arith) (q (omega arith))
 
--- ---- a symbol without a gap before it
-few_pushed : (b : Back) (c : Corrected) (f s : List ℤ) → gap_at b.last c.at ≡ false → b.metas.count < 5 →
-    (pushed_back b c f s).back ≡ record { eq = pushed_eq b.eq c.y.i c.y.q; metas = joined b.metas (meta_of c); last = At c.at }
-unfolding pushed_back taken_by when◌then◌else◌
-few_pushed b c f s g l = rw (no_gap b c.at g, lt-ltb b.metas.count 5 l)
-
-five_pushed : (b : Back) (c : Corrected) (f s : List ℤ) → gap_at b.last c.at ≡ false → 5 ≤ b.metas.count →
-    (pushed_back b c f s).back ≡ record {
-      eq = trained_at (pushed_eq b.eq c.y.i c.y.q) b.metas.first f s;
-      metas = moved b.metas (meta_of c);
-      last = At c.at;
-    }
-unfolding pushed_back taken_by when◌then◌else◌
-five_pushed b c f s g l = rw (no_gap b c.at g, le-ltb b.metas.count 5 l)
-
 -- ---- an aligned symbol
 scaled_size : (word : Word) (x y : ℤ) → nat_abs x ≡ 1 → nat_abs y ≡ 1 → nat_abs (scaled_of word x y) ≤ 724
 unfolding scaled_of
@@ -136,11 +119,6 @@ trained_either P e m f s hf hs p q =
     (λ u. p)))
     (λ t. subst P (sym (untrained e m f s (ltb-false m.j 24 t))) p)
 
--- sums stay open, or closed
-trained_opened : (e : Equaliser) (m : Meta) (f s : List ℤ) → ones_of f ≡ true → ones_of s ≡ true → (trained_at e m f s).opened ≡ e.opened
-unfolding with_sums
-trained_opened e m f s hf hs = trained_either (λ (x : Equaliser). x.opened ≡ e.opened) e m f s hf hs refl (λ di dq l t h k. sym (trains_open e t))
-
 -- ---- one symbol more
 pub filling_step : (at c₀ f₀ n : ℕ) (b : Back) (c : Corrected) (f s : List ℤ) → ones_of f ≡ true → ones_of s ≡ true → n < 9296 → Symbol at n c →
     Filling at c₀ f₀ n b → Filling at c₀ f₀ (suc n) (pushed_back b c f s).back
@@ -161,7 +139,7 @@ filling_step at c₀ f₀ n b c f s hf hs l y p =
       count = omega (arith, p.count, h);
       filled = omega (arith, p.filled);
       follows = after;
-      last = λ i z. ap At (omega (arith, y.at_is, z));
+      last = λ i z. ap Some (omega (arith, y.at_is, z));
       first = joined-place at n k 0 m w.first h o p.first;
       second = joined-place at n k 1 m w.second h o p.second;
       third = joined-place at n k 2 m w.third h o p.third;
@@ -176,7 +154,7 @@ filling_step at c₀ f₀ n b c f s hf hs l y p =
       count = omega (arith, p.count, h);
       filled = trained_filled (pushed_eq b.eq c.y.i c.y.q) w.first f s ∙ omega (arith, p.filled);
       follows = after;
-      last = λ i z. ap At (omega (arith, y.at_is, z));
+      last = λ i z. ap Some (omega (arith, y.at_is, z));
       first = λ i. moved-place at n k 0 w.second p.second five (omega arith);
       second = λ i. moved-place at n k 1 w.third p.third five (omega arith);
       third = λ i. moved-place at n k 2 w.fourth p.fourth five (omega arith);
@@ -184,35 +162,9 @@ filling_step at c₀ f₀ n b c f s hf hs l y p =
       fifth = λ i. place_is at (n + 5) (suc n + 5 - k + 4) m (omega (arith, five)) o;
     }))
 
-pub opened_step : (at n : ℕ) (b : Back) (c : Corrected) (f s : List ℤ) → ones_of f ≡ true → ones_of s ≡ true → gap_at b.last c.at ≡ false →
-    (pushed_back b c f s).back.eq.opened ≡ b.eq.opened
-unfolding pushed_eq
-opened_step at n b c f s hf hs g =
-    by_test (ltb b.metas.count 5)
-    (λ t. ap (λ (x : Back). x.eq.opened) (few_pushed b c f s g (ltb-true b.metas.count 5 t)))
-    (λ t.
-    ap (λ (x : Back). x.eq.opened) (five_pushed b c f s g (ltb-false b.metas.count 5 t)) ∙
-    trained_opened (pushed_eq b.eq c.y.i c.y.q) b.metas.first f s hf hs)
-
--- its training, by crate frame
-pub count_step : (b : Back) (c : Corrected) (f s : List ℤ) → b.metas.count ≤ 5 → gap_at b.last c.at ≡ false →
-    (pushed_back b c f s).back.eq.sums.count ≡ b.eq.sums.count + (when trains_back b then 1 else 0)
-unfolding after_all unbroken trained_in
-count_step b c f s h g = omega (arith, count_theorem b (c ∷ []) f s h (rw g))
-
 -- ---- which symbols train: with the first slot numbers 10 to 28 of those that come, later 5 to 28
 abbrev pub Begins : ℕ → ℕ → ℕ → Type 0
 Begins c₀ f₀ lo = ((c₀ ≡ 0) × (f₀ ≡ 0) × (lo ≡ 10)) ⊎ ((c₀ ≡ 5) × (f₀ ≡ 11) × (lo ≡ 5))
-
-no_sync : (a p o l : Bool) → p ≡ false → (a && p && o && l) ≡ false
-no_sync true p o l e = rw e
-no_sync false p o l e = refl
-
-no_line_lem : (a p o l : Bool) → l ≡ false → (a && p && o && l) ≡ false
-no_line_lem true true true l e = e
-no_line_lem true true false l e = refl
-no_line_lem true false o l e = refl
-no_line_lem false p o l e = refl
 
 pub trains_in : (at c₀ f₀ lo n : ℕ) (b : Back) → Begins c₀ f₀ lo → Filling at c₀ f₀ n b → lo ≤ n → n < 29 → trains_back b ≡ b.eq.opened
 unfolding trains_back
@@ -231,9 +183,6 @@ trains_in at c₀ f₀ lo n b z p h l =
     five : Begins c₀ f₀ lo → (5 ≤ c₀ + n) × (10 ≤ f₀ + n) × (5 ≤ n)
     five (inl e) = (omega (arith, e.0, e.1, e.2), omega (arith, e.0, e.1, e.2), omega (arith, e.0, e.1, e.2))
     five (inr e) = (omega (arith, e.0, e.1, e.2), omega (arith, e.0, e.1, e.2), omega (arith, e.0, e.1, e.2))
-
-not_sync : (j : ℕ) → 24 ≤ j → is_sync (part_of j) ≡ false
-not_sync j h = sync_places j ∙ le-ltb j 24 h
 
 pub trains_out : (at c₀ f₀ lo n : ℕ) (b : Back) → Begins c₀ f₀ lo → Filling at c₀ f₀ n b → n < 9296 → (n < lo) ⊎ (29 ≤ n) → trains_back b ≡ false
 unfolding trains_back

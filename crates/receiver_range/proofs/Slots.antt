@@ -1,6 +1,7 @@
 -- What a corrected slot makes of the alignment: from nothing, or from the slot before it, to the next. Assumes nothing.
+use Rattle.std.specs.Prelude.{Option, Some}
 use Prim.Native.Nat.{ℕ, zero, suc, ◌+◌, ◌-◌, ◌≤◌, ◌<◌, min}
-use mathlib.Core.Bool.{Bool, true, false, not, ◌||◌}
+use mathlib.Core.Bool.{true, false, not, ◌||◌}
 use mathlib.Core.List.{List, [], ◌∷◌, ◌++◌}
 use mathlib.Core.Logic.{◌⊎◌, inl, inr}
 use mathlib.Core.Path.{◌≡◌, refl, sym, ap, subst, ◌∙◌}
@@ -15,7 +16,7 @@ use mir.Val.{SFits}
 use Rattle.laws.specs.Choice.{when◌then◌else◌, if_yes, if_no, minus}
 use Rattle.laws.specs.Ranges.{firsts}
 use Rattle.laws.proofs.Linear.{ud_le}
-use Rattle.laws.proofs.Tests.{and_both, by_test, if_both, neither}
+use Rattle.laws.proofs.Tests.{and_both, by_test, neither}
 use Rattle.fx.specs.Fx.{sat16_of}
 use Rattle.fx.proofs.Theorems.{sat16_theorem}
 use Rattle.sync_corr.specs.Correlate.{ones_of}
@@ -23,56 +24,28 @@ use Rattle.sync_heads.specs.Ranges.{slot_in_range}
 use Rattle.phase.specs.declared.WholeSlot.{WholeSlot}
 use Rattle.phase.specs.declared.Corrected.{Corrected}
 use Rattle.phase.specs.Phase.{scaled_of, corrected_of}
-use Rattle.frame_line.specs.declared.LastAt.{LastAt}
-use Rattle.frame_line.specs.declared.LastAt.TheVariants.{At}
 use Rattle.frame_line.specs.Line.{gap_at}
 use Rattle.frame.specs.declared.Back.{Back}
-use Rattle.frame.specs.declared.Pushed.{Pushed}
-use Rattle.frame.specs.Align.{joined_to, taken_by, pushed_back}
+use Rattle.frame.specs.Align.{pushed_back}
 use Rattle.frame.specs.Answers.{trains_back, full_back}
 use Rattle.frame.specs.Stretch.{after_all, unbroken}
 use Rattle.frame.proofs.Theorems.{no_gap}
 use Rattle.receiver_slot.specs.Slot.{corrected_all, overfull}
+use Rattle.receiver_slot.proofs.Filling.{count_step, opened_step}
+use Rattle.receiver_slot.proofs.Steps.{after_snoc, or_false, over_snoc, pushed_last}
 use Rattle.receiver_range.specs.Coherent.{Untouched, Adjoins}
-use Rattle.receiver_range.proofs.Push.{Symbol, Filling, Begins, SoundEq, filling_step, opened_step, count_step, trains_in, trains_out, sound_step, untouched_filling, adjoins_filling, filled_adjoins}
+use Rattle.receiver_range.proofs.Push.{Symbol, Filling, Begins, SoundEq, filling_step, trains_in, trains_out, sound_step, untouched_filling, adjoins_filling, filled_adjoins}
 
 -- ---- one symbol behind others
-pub after_snoc : (b : Back) (xs : List Corrected) (c : Corrected) (f s : List ℤ) → after_all b (xs ++ (c ∷ [])) f s ≡ (pushed_back (after_all b xs f s) c f s).back
-unfolding after_all
-after_snoc b [] c f s = refl
-after_snoc b (x ∷ xs) c f s = after_snoc (pushed_back b x f s).back xs c f s
-
-or_false : (t : Bool) → (t || false) ≡ t
-or_false true = refl
-or_false false = refl
-
-or_assoc : (a b c : Bool) → (a || (b || c)) ≡ ((a || b) || c)
-or_assoc true b c = refl
-or_assoc false b c = refl
-
-over_snoc : (b : Back) (xs : List Corrected) (c : Corrected) (f s : List ℤ) →
-    overfull b (xs ++ (c ∷ [])) f s ≡ (overfull b xs f s || full_back (joined_to (after_all b xs f s) c.at))
-unfolding overfull after_all
-over_snoc b [] c f s = or_false (full_back (joined_to b c.at))
-over_snoc b (x ∷ xs) c f s =
-    let p = (pushed_back b x f s).back in
-    ap (λ (t : Bool). full_back (joined_to b x.at) || t) (over_snoc p xs c f s)
-    ∙ or_assoc (full_back (joined_to b x.at)) (overfull p xs f s) (full_back (joined_to (after_all p xs f s) c.at))
-
--- a symbol's position is the last, gap or none
-pushed_last : (b : Back) (c : Corrected) (f s : List ℤ) → (pushed_back b c f s).back.last ≡ At c.at
-unfolding pushed_back taken_by
-pushed_last b c f s = if_both (λ (x : Pushed). x.back.last ≡ At c.at) _ _ _ refl refl
-
 unbroken_snoc : (b : Back) (xs : List Corrected) (c : Corrected) (f s : List ℤ) → unbroken b.last xs ≡ true →
     gap_at (after_all b xs f s).last c.at ≡ false → unbroken b.last (xs ++ (c ∷ [])) ≡ true
 unfolding unbroken after_all
 unbroken_snoc b [] c f s u g = rw g
 unbroken_snoc b (x ∷ xs) c f s u g =
-    let k = and_both (not (gap_at b.last x.at)) (unbroken (At x.at) xs) u in
+    let k = and_both (not (gap_at b.last x.at)) (unbroken (Some x.at) xs) u in
     let e = pushed_last b x f s in
-    let ih = unbroken_snoc (pushed_back b x f s).back xs c f s (subst (λ (a : LastAt). unbroken a xs ≡ true) (sym e) k.1) g in
-    rw k.0 (subst (λ (a : LastAt). unbroken a (xs ++ (c ∷ [])) ≡ true) e ih)
+    let ih = unbroken_snoc (pushed_back b x f s).back xs c f s (subst (λ (a : Option ℕ). unbroken a xs ≡ true) (sym e) k.1) g in
+    rw k.0 (subst (λ (a : Option ℕ). unbroken a (xs ++ (c ∷ [])) ≡ true) e ih)
 
 -- ---- the first n symbols of a slot
 module _ (at : ℕ) (cs : ℕ → Corrected) (f s : List ℤ) (hf : ones_of f ≡ true) (hs : ones_of s ≡ true) (good : (j : ℕ) → j < 9296 → Symbol at j (cs j))
@@ -103,7 +76,7 @@ module _ (at : ℕ) (cs : ℕ → Corrected) (f s : List ℤ) (hf : ones_of f �
   stays_open : (n : ℕ) → n ≤ 9296 → (gone n).eq.opened ≡ b.eq.opened
   stays_open zero h = ap (λ (x : Back). x.eq.opened) gone-none
   stays_open (suc n) h =
-      ap (λ (x : Back). x.eq.opened) (gone-step n) ∙ opened_step at n (gone n) (cs n) f s hf hs (follows n h) ∙ stays_open n (omega arith)
+      ap (λ (x : Back). x.eq.opened) (gone-step n) ∙ opened_step (gone n) (cs n) f s (follows n h) ∙ stays_open n (omega arith)
 
   count_next : (n : ℕ) → n < 9296 → (gone (suc n)).eq.sums.count ≡ (gone n).eq.sums.count + (when trains_back (gone n) then 1 else 0)
   count_next n h =

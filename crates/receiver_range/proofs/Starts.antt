@@ -1,4 +1,6 @@
 -- A receiver that starts is coherent, and loads and training calls keep it so. Assumes nothing.
+use Rattle.std.specs.Prelude.{Option, None, Some}
+use Rattle.phase.specs.declared.Held.{Held}
 use Prim.Native.Nat.{ℕ, ◌*◌, ◌^◌, ◌≤◌}
 use mathlib.Core.Bool.{true, false, not, ◌||◌}
 use mathlib.Core.List.{List}
@@ -16,8 +18,6 @@ use Rattle.carrier.proofs.Theorems.{start_coherent}
 use Rattle.sync_heads.specs.Ranges.{record_in_range}
 use Rattle.sync_range.specs.Coherent.{rotated}
 use Rattle.sync_range.proofs.Steps.{started_coherent as sync-started}
-use Rattle.phase.specs.declared.SlotPhase.{SlotPhase}
-use Rattle.phase.specs.declared.SlotPhase.TheVariants.{Idle, Holds}
 use Rattle.demap.specs.Answers.{bad_points, bad_scale}
 use Rattle.sums.specs.Sums.{empty_sums}
 use Rattle.eq_train.proofs.Theorems.{empty_sound}
@@ -77,11 +77,11 @@ points_coherent r p f c = record { nco = c.nco; sync = c.sync; phase = c.phase; 
 
 -- ---- another equaliser, with a line as full
 -- .. is all that the alignment looks at
-back_kept : (s : SlotPhase) (b : Back) (e : Equaliser) → e.filled ≡ b.eq.filled → BackFits s b →
+back_kept : (s : Option Held) (b : Back) (e : Equaliser) → e.filled ≡ b.eq.filled → BackFits s b →
     BackFits s (record { eq = e; metas = b.metas; last = b.last })
-back_kept Idle b e h u = record { none = u.none; empty = rw h u.empty; last = u.last }
-back_kept (Holds x) b e h (inl u) = inl (record { none = u.none; empty = rw h u.empty; last = u.last })
-back_kept (Holds x) b e h (inr j) =
+back_kept None b e h u = record { none = u.none; empty = rw h u.empty; last = u.last }
+back_kept (Some x) b e h (inl u) = inl (record { none = u.none; empty = rw h u.empty; last = u.last })
+back_kept (Some x) b e h (inr j) =
     inr
     (record {
       five = j.five;

@@ -1,4 +1,6 @@
 -- What an accepted symbol makes of a coherent receiver. Assumes nothing.
+use Rattle.sync_heads.specs.declared.SlotNumber.{SlotNumber}
+use Rattle.std.specs.Prelude.{Option, None, Some}
 use Prim.Native.Nat.{ℕ, suc, ◌+◌, ◌-◌, ◌*◌, ◌^◌, ◌≤◌, ◌<◌}
 use mathlib.Core.Bool.{true, false, not}
 use mathlib.Core.List.{List, [], ◌∷◌}
@@ -20,8 +22,6 @@ use Rattle.carrier.proofs.Theorems.{rotated_small}
 use Rattle.sync_corr.specs.Correlate.{ones_of, both_of}
 use Rattle.sync_corr.specs.Rows.{Bounded}
 use Rattle.sync_corr.specs.declared.Both.{Both}
-use Rattle.sync_heads.specs.declared.Slot.{Slot as SlotNumber}
-use Rattle.sync_heads.specs.declared.Slot.TheVariants.{Unknown, In}
 use Rattle.sync_heads.specs.Ranges.{slot_in_range}
 use Rattle.sync_step.specs.declared.Run.{Run}
 use Rattle.sync_step.specs.declared.Step.{Step}
@@ -35,15 +35,10 @@ use Rattle.sync_range.specs.Coherent as Bounds
 use Rattle.sync_range.proofs.Corr.{both_fits}
 use Rattle.sync_range.proofs.Theorems.{push_coherent}
 use Rattle.sync_range.proofs.Window.{window_after_fits}
-use Rattle.phase.specs.declared.Due.{Due}
-use Rattle.phase.specs.declared.Due.TheVariants.{Nothing as NoSlot, Slot}
 use Rattle.phase.specs.declared.Held.{Held}
-use Rattle.phase.specs.declared.SlotPhase.{SlotPhase}
-use Rattle.phase.specs.declared.SlotPhase.TheVariants.{Idle, Holds}
 use Rattle.phase.specs.declared.WholeSlot.{WholeSlot}
 use Rattle.phase.specs.declared.Corrected.{Corrected}
 use Rattle.phase.specs.Phase.{pushed_in, corrected_of}
-use Rattle.frame_line.specs.declared.LastAt.TheVariants.{At}
 use Rattle.frame_line.specs.Line.{gap_at}
 use Rattle.frame.specs.declared.Back.{Back}
 use Rattle.frame.specs.Stretch.{after_all, unbroken}
@@ -64,7 +59,7 @@ use Rattle.receiver_range.proofs.Heads.{DueFits, Follows, heard_by, before, take
 
 -- ---- slot sync and its events
 -- what the heads of a step leave, from carrier n and slot phase s on, and what a sync that runs on has of it
-record Stepped (r : Run) (s : SlotPhase) (b : Both) (n : Nco) (x : Step) : Type 0 where
+record Stepped (r : Run) (s : Option Held) (b : Both) (n : Nco) (x : Step) : Type 0 where
   pub nco : NcoFits (listened 9296 (before n s) x.events).nco
   pub due : DueFits s (r.base + r.t - 23) (listened 9296 (before n s) x.events).due
   pub goes : loses_in x.events ≡ false → Bounded (corr_most Bounds.rotated) b.f → Bounded (corr_most Bounds.rotated) b.s → slot_in_range x.run.course.slot ≡ true →
@@ -73,21 +68,21 @@ record Stepped (r : Run) (s : SlotPhase) (b : Both) (n : Nco) (x : Step) : Type 
       PhaseFits x.run t × Follows s l.due t
 
 -- no head is held before 24 symbols have come
-no_head : (r : Run) (s : SlotPhase) → PhaseFits r s → r.t < 23 → s ≡ Idle
-no_head r Idle f l = refl
-no_head r (Holds x) f l = absurd (none f.counted f.place)
+no_head : (r : Run) (s : Option Held) → PhaseFits r s → r.t < 23 → s ≡ None
+no_head r None f l = refl
+no_head r (Some x) f l = absurd (none f.counted f.place)
   where
     none : x.head.at + x.count + 23 ≡ r.base + r.t → x.head.at ≡ r.base + f.period * 9296 + f.offset → ⊥
     none e d = omega arith
 
-early_stepped : (r : Run) (s : SlotPhase) (b : Both) (n : Nco) → NcoFits n → PhaseFits r s → r.t < 23 → Stepped r s b n (early_of r)
+early_stepped : (r : Run) (s : Option Held) (b : Both) (n : Nco) → NcoFits n → PhaseFits r s → r.t < 23 → Stepped r s b n (early_of r)
 unfolding early_of no_events listened event_heard
 early_stepped r s b n c f l =
     let e = no_head r s f l in
-    subst (λ (z : SlotPhase). Stepped r z b n (early_of r)) (sym e)
-    (record { nco = c; due = tt; goes = λ z hf hs k. rw (if_no (leb 23 r.t) (pushed_in 9296 Idle) Idle (lt-leb 23 r.t l)) (tt, tt) })
+    subst (λ (z : Option Held). Stepped r z b n (early_of r)) (sym e)
+    (record { nco = c; due = tt; goes = λ z hf hs k. rw (if_no (leb 23 r.t) (pushed_in 9296 None) None (lt-leb 23 r.t l)) (tt, tt) })
 
-late_stepped : (r : Run) (h a : ℕ) (s : SlotPhase) (b : Both) (n : Nco) → NcoFits n → Bounds.LockFits r.t h r.lock → Bounds.StageFits Bounds.rotated h r.stage → 23 ≤ r.t →
+late_stepped : (r : Run) (h a : ℕ) (s : Option Held) (b : Both) (n : Nco) → NcoFits n → Bounds.LockFits r.t h r.lock → Bounds.StageFits Bounds.rotated h r.stage → 23 ≤ r.t →
     PhaseFits r s → Stepped r s b n (late_of 9296 r b a)
 late_stepped r h a s b n c l g u f =
     let k = taken_of 9296 r (place_of 9296 r.t) b in
@@ -104,7 +99,7 @@ late_stepped r h a s b n c l g u f =
           rw (e, if_yes (leb 23 r.t) (pushed_in 9296 m.phase) m.phase (le-leb 23 r.t u)) (w.phase, w.follows);
     }
 
-stepped : (r : Run) (h a : ℕ) (s : SlotPhase) (b : Both) (n : Nco) → NcoFits n → Bounds.LockFits r.t h r.lock → Bounds.StageFits Bounds.rotated h r.stage → PhaseFits r s →
+stepped : (r : Run) (h a : ℕ) (s : Option Held) (b : Both) (n : Nco) → NcoFits n → Bounds.LockFits r.t h r.lock → Bounds.StageFits Bounds.rotated h r.stage → PhaseFits r s →
     Stepped r s b n (step_of 9296 r b a)
 unfolding step_of
 stepped r h a s b n c l g f =
@@ -113,10 +108,10 @@ stepped r h a s b n c l g f =
     (λ t. late_stepped r h a s b n c l g (ltb-false r.t 23 t) f)
 
 -- ---- a symbol of a receiver
-slot_fits : (h misses : ℕ) (k : SlotNumber) → SlotFits h misses k → slot_in_range k ≡ true
+slot_fits : (h misses : ℕ) (k : Option SlotNumber) → SlotFits h misses k → slot_in_range k ≡ true
 unfolding slot_in_range
-slot_fits h misses Unknown g = refl
-slot_fits h misses (In number frame) g = le-leb number 119 g.within
+slot_fits h misses None g = refl
+slot_fits h misses (Some s) g = le-leb s.number 119 g.within
 
 -- what is known of a symbol that is accepted, but for full sums
 pub record Takes (r : Receiver) (x : Input) (l : Lent) : Type 0 where
@@ -148,11 +143,11 @@ module _ (r : Receiver) (x : Input) (l : Lent) (c : CoherentReceiver r) where
   due_fits = steps.due
 
   -- ---- 7 IS FOR THE SYMBOL'S OWN POSITION ALONE
-  slot-below : (s : SlotPhase) (d : Due) → DueFits s (run.base + run.t - 23) d → next_of r < 2 ^ 62 → slot_past 9296 d ≡ false
+  slot-below : (s : Option Held) (d : Option WholeSlot) → DueFits s (run.base + run.t - 23) d → next_of r < 2 ^ 62 → slot_past 9296 d ≡ false
   unfolding slot_past next_of
-  slot-below s NoSlot f u = refl
-  slot-below Idle (Slot w) f u = absurd f
-  slot-below (Holds h) (Slot w) f u = le-ltb (2 ^ 62) (w.head.at + 9296) (rw f.head (omega (arith, f.spans)))
+  slot-below s None f u = refl
+  slot-below None (Some w) f u = absurd f
+  slot-below (Some h) (Some w) f u = le-ltb (2 ^ 62) (w.head.at + 9296) (rw f.head (omega (arith, f.spans)))
 
   pub past_is : past 9296 r x l ≡ leb (2 ^ 62) (next_of r)
   unfolding past
@@ -193,16 +188,16 @@ module _ (r : Receiver) (x : Input) (l : Lent) (c : CoherentReceiver r) where
       steps.goes e b.0 b.1 (slot_fits s.heads (synced 9296 r x l).run.course.misses (synced 9296 r x l).run.course.slot s.course.slot)
 
 -- ---- the alignment behind the slot that is due
-due_back : (q : Run) (s t : SlotPhase) (d : Due) (b : Back) (table store f g : List ℤ) → ones_of f ≡ true → ones_of g ≡ true → PhaseFits q s → BackFits s b → Follows s d t →
+due_back : (q : Run) (s t : Option Held) (d : Option WholeSlot) (b : Back) (table store f g : List ℤ) → ones_of f ≡ true → ones_of g ≡ true → PhaseFits q s → BackFits s b → Follows s d t →
     BackFits t (after_all b (due_symbols 9296 d table store) f g)
 unfolding due_symbols after_all
-due_back q Idle Idle NoSlot b table store f g hf hg p u z = u
-due_back q Idle (Holds y) NoSlot b table store f g hf hg p u z = inl u
-due_back q Idle t (Slot w) b table store f g hf hg p u z = absurd z
-due_back q (Holds x) Idle NoSlot b table store f g hf hg p u z = absurd z
-due_back q (Holds x) (Holds y) NoSlot b table store f g hf hg p u z = subst (λ h. Untouched b ⊎ Adjoins h.at b) (sym z) u
-due_back q (Holds x) Idle (Slot w) b table store f g hf hg p u z = absurd z
-due_back q (Holds x) (Holds y) (Slot w) b table store f g hf hg p u z =
+due_back q None None None b table store f g hf hg p u z = u
+due_back q None (Some y) None b table store f g hf hg p u z = inl u
+due_back q None t (Some w) b table store f g hf hg p u z = absurd z
+due_back q (Some x) None None b table store f g hf hg p u z = absurd z
+due_back q (Some x) (Some y) None b table store f g hf hg p u z = subst (λ h. Untouched b ⊎ Adjoins h.at b) (sym z) u
+due_back q (Some x) None (Some w) b table store f g hf hg p u z = absurd z
+due_back q (Some x) (Some y) (Some w) b table store f g hf hg p u z =
     let h = z.0 in
     let v : Untouched b ⊎ Adjoins w.head.at b = subst (λ k. Untouched b ⊎ Adjoins k.at b) (sym h) u in
     let k : slot_in_range w.head.slot ≡ true = rw h p.head.slot in
@@ -210,22 +205,22 @@ due_back q (Holds x) (Holds y) (Slot w) b table store f g hf hg p u z =
     let at : w.head.at + 9296 ≡ y.head.at = rw h (sym z.1) in
     inr (subst (λ (n : ℕ). Adjoins n (after_all b (corrected_all 9296 w table store) f g)) at (slot-adjoins w table store f g hf hg k b low v))
 
-due_sound : (q : Run) (s : SlotPhase) (n : ℕ) (d : Due) (b : Back) (table store f g : List ℤ) → ones_of f ≡ true → ones_of g ≡ true → PhaseFits q s → BackFits s b → DueFits s n d →
+due_sound : (q : Run) (s : Option Held) (n : ℕ) (d : Option WholeSlot) (b : Back) (table store f g : List ℤ) → ones_of f ≡ true → ones_of g ≡ true → PhaseFits q s → BackFits s b → DueFits s n d →
     SoundEq b.eq → overfull b (due_symbols 9296 d table store) f g ≡ false → SoundEq (after_all b (due_symbols 9296 d table store) f g).eq
 unfolding due_symbols
-due_sound q s n NoSlot b table store f g hf hg p u z k e = unfold after_all in k
-due_sound q Idle n (Slot w) b table store f g hf hg p u z k e = absurd z
-due_sound q (Holds x) n (Slot w) b table store f g hf hg p u z k e =
+due_sound q s n None b table store f g hf hg p u z k e = unfold after_all in k
+due_sound q None n (Some w) b table store f g hf hg p u z k e = absurd z
+due_sound q (Some x) n (Some w) b table store f g hf hg p u z k e =
     let v : Untouched b ⊎ Adjoins w.head.at b = subst (λ i. Untouched b ⊎ Adjoins i.at b) (sym z.head) u in
     slot-sound w table store f g hf hg (rw z.head p.head.slot) b v k e
 
 -- the count of open sums goes up by the slot's trainings
-due_count : (q : Run) (s : SlotPhase) (n : ℕ) (d : Due) (b : Back) (table store f g : List ℤ) → ones_of f ≡ true → ones_of g ≡ true → PhaseFits q s → BackFits s b → DueFits s n d →
+due_count : (q : Run) (s : Option Held) (n : ℕ) (d : Option WholeSlot) (b : Back) (table store f g : List ℤ) → ones_of f ≡ true → ones_of g ≡ true → PhaseFits q s → BackFits s b → DueFits s n d →
     (b.eq.opened ≡ true → CountFits b) → (after_all b (due_symbols 9296 d table store) f g).eq.opened ≡ true → CountFits (after_all b (due_symbols 9296 d table store) f g)
 unfolding due_symbols
-due_count q s n NoSlot b table store f g hf hg p u z k o = unfold after_all in k (unfold after_all in o)
-due_count q Idle n (Slot w) b table store f g hf hg p u z k o = absurd z
-due_count q (Holds x) n (Slot w) b table store f g hf hg p u z k o =
+due_count q s n None b table store f g hf hg p u z k o = unfold after_all in k (unfold after_all in o)
+due_count q None n (Some w) b table store f g hf hg p u z k o = absurd z
+due_count q (Some x) n (Some w) b table store f g hf hg p u z k o =
     let v : Untouched b ⊎ Adjoins w.head.at b = subst (λ i. Untouched b ⊎ Adjoins i.at b) (sym z.head) u in
     let i : slot_in_range w.head.slot ≡ true = rw z.head p.head.slot in
     let before : b.eq.opened ≡ true = sym (slot-opened w table store f g hf hg i b v) ∙ o in
@@ -285,7 +280,7 @@ module _ (r : Receiver) (x : Input) (l : Lent) (c : CoherentReceiver r) (a : Tak
 -- ---- THE SLOT THAT A CALL COMPLETES is the held head's; the alignment is untouched, or the slot adjoins: there is no gap
 pub record Due-is (r : Receiver) (w : WholeSlot) : Type 0 where
   pub held : Held
-  pub holds : r.front.phase ≡ Holds held
+  pub holds : r.front.phase ≡ Some held
   pub head : w.head ≡ held.head
   pub whole : held.count ≡ 9296
   pub slot : slot_in_range w.head.slot ≡ true
@@ -295,10 +290,10 @@ pub record Due-is (r : Receiver) (w : WholeSlot) : Type 0 where
   pub next : w.next.at ≡ w.head.at + 9296
   pub back : Untouched r.back ⊎ Adjoins w.head.at r.back
 
-due_of_lem : (r : Receiver) (s : SlotPhase) (w : WholeSlot) → r.front.phase ≡ s → PhaseFits r.front.sync.run s → BackFits s r.back →
-    DueFits s (r.front.sync.run.base + r.front.sync.run.t - 23) (Slot w) → Due-is r w
-due_of_lem r Idle w e p b d = absurd d
-due_of_lem r (Holds x) w e p b d =
+due_of_lem : (r : Receiver) (s : Option Held) (w : WholeSlot) → r.front.phase ≡ s → PhaseFits r.front.sync.run s → BackFits s r.back →
+    DueFits s (r.front.sync.run.base + r.front.sync.run.t - 23) (Some w) → Due-is r w
+due_of_lem r None w e p b d = absurd d
+due_of_lem r (Some x) w e p b d =
     let h = d.head in
     record {
       held = x;
@@ -317,26 +312,26 @@ waits-unbroken : (b : Back) (cs : List Corrected) → unbroken b.last cs ≡ tru
 unfolding unbroken waiting_before
 waits-unbroken b [] u h = absurd (not-suc-le-zero h)
 waits-unbroken b (d ∷ cs) u h =
-    let k = and_both (not (gap_at b.last d.at)) (unbroken (At d.at) cs) u in
+    let k = and_both (not (gap_at b.last d.at)) (unbroken (Some d.at) cs) u in
     ap (λ (y : Back). y.metas.count) (no_gap b d.at (not_true (gap_at b.last d.at) k.0))
 
 module _ (r : Receiver) (x : Input) (l : Lent) (c : CoherentReceiver r) where
-  pub due_is : (w : WholeSlot) → (heads 9296 r x l).due ≡ Slot w → Due-is r w
+  pub due_is : (w : WholeSlot) → (heads 9296 r x l).due ≡ Some w → Due-is r w
   due_is w e =
       due_of_lem r r.front.phase w refl c.phase c.back
       (subst (DueFits r.front.phase (r.front.sync.run.base + r.front.sync.run.t - 23)) e (due_fits r x l c))
 
-  pub slot_is : (w : WholeSlot) → (heads 9296 r x l).due ≡ Slot w → slot 9296 r x l ≡ corrected_all 9296 w x.table l.store
+  pub slot_is : (w : WholeSlot) → (heads 9296 r x l).due ≡ Some w → slot 9296 r x l ≡ corrected_all 9296 w x.table l.store
   unfolding slot due_symbols
   slot_is w e = rw e
 
   -- no slot is completed: nothing is aligned, and 8 is not answered
-  pub none-due : (heads 9296 r x l).due ≡ NoSlot → (slot 9296 r x l ≡ []) × (full 9296 r x l ≡ false)
+  pub none-due : (heads 9296 r x l).due ≡ None → (slot 9296 r x l ≡ []) × (full 9296 r x l ≡ false)
   unfolding full slot due_symbols overfull
   none-due e = rw e (refl, refl)
 
   -- ---- TRAININGS: a call that completes a slot makes 19 on an untouched line and 24 after
-  pub symbol-trains : ones_of x.f ≡ true → ones_of x.s ≡ true → (w : WholeSlot) → (heads 9296 r x l).due ≡ Slot w →
+  pub symbol-trains : ones_of x.f ≡ true → ones_of x.s ≡ true → (w : WholeSlot) → (heads 9296 r x l).due ≡ Some w →
       (Untouched r.back × Trains 19 r.back (slot 9296 r x l) x.f x.s) ⊎ (Adjoins w.head.at r.back × Trains 24 r.back (slot 9296 r x l) x.f x.s)
   symbol-trains hf hs w e = go d.back
     where
@@ -349,7 +344,7 @@ module _ (r : Receiver) (x : Input) (l : Lent) (c : CoherentReceiver r) where
       go (inr u) = inr (u, rw (slot_is w e) (slot-later w x.table l.store x.f x.s hf hs d.slot r.back u))
 
   -- the next slot adjoins, and sums that are open stay open
-  pub symbol-adjoins : ones_of x.f ≡ true → ones_of x.s ≡ true → (w : WholeSlot) → (heads 9296 r x l).due ≡ Slot w →
+  pub symbol-adjoins : ones_of x.f ≡ true → ones_of x.s ≡ true → (w : WholeSlot) → (heads 9296 r x l).due ≡ Some w →
       Adjoins (w.head.at + 9296) (after_all r.back (slot 9296 r x l) x.f x.s) × ((after_all r.back (slot 9296 r x l) x.f x.s).eq.opened ≡ r.back.eq.opened)
   symbol-adjoins hf hs w e =
       let d = due_is w e in
@@ -362,14 +357,14 @@ module _ (r : Receiver) (x : Input) (l : Lent) (c : CoherentReceiver r) where
   pub symbol-unbroken : ones_of x.f ≡ true → ones_of x.s ≡ true → unbroken r.back.last (slot 9296 r x l) ≡ true
   symbol-unbroken hf hs = go (heads 9296 r x l).due refl
     where
-      go : (d : Due) → (heads 9296 r x l).due ≡ d → unbroken r.back.last (slot 9296 r x l) ≡ true
-      go NoSlot e = rw (none-due e).0 (unfold unbroken in refl)
-      go (Slot w) e =
+      go : (d : Option WholeSlot) → (heads 9296 r x l).due ≡ d → unbroken r.back.last (slot 9296 r x l) ≡ true
+      go None e = rw (none-due e).0 (unfold unbroken in refl)
+      go (Some w) e =
           let d = due_is w e in
           rw (slot_is w e) (slot-unbroken w x.table l.store x.f x.s hf hs d.slot r.back d.back)
 
   -- those that wait before it: the alignment's
-  pub symbol-waiting : ones_of x.f ≡ true → ones_of x.s ≡ true → (w : WholeSlot) → (heads 9296 r x l).due ≡ Slot w →
+  pub symbol-waiting : ones_of x.f ≡ true → ones_of x.s ≡ true → (w : WholeSlot) → (heads 9296 r x l).due ≡ Some w →
       waiting_before r.back (slot 9296 r x l) ≡ r.back.metas.count
   unfolding corrected_all
   symbol-waiting hf hs w e =

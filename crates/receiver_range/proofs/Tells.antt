@@ -1,4 +1,5 @@
 -- What the heads that a reading tells are: the last of them is the reading's own, of its position and with the course's slot. Assumes nothing.
+use Rattle.std.specs.Prelude.{None, Some}
 use Prim.Native.Nat.{ℕ, ◌%◌, ◌≤◌}
 use mathlib.Core.Bool.{Bool, true, false}
 use mathlib.Core.Path.{◌≡◌, refl}
@@ -15,7 +16,6 @@ use Rattle.sync_corr.specs.declared.Both.{Both}
 use Rattle.sync_corr.specs.declared.Corr.{Corr}
 use Rattle.sync_heads.specs.declared.Course.{Course}
 use Rattle.sync_heads.specs.declared.Head.{Head}
-use Rattle.sync_heads.specs.declared.Headed.TheVariants.{Nothing as NoHead, One as OneHead}
 use Rattle.sync_heads.specs.declared.Parity.{Parity}
 use Rattle.sync_heads.specs.declared.Reading.{Reading}
 use Rattle.sync_heads.specs.declared.Said.{Said}
@@ -64,8 +64,8 @@ head_fits r c h hf hs l o =
 
 -- ---- an F head: told, or lost
 data FTold (r : Reading) (t : Told) : Type 0 where
-  silent : t.lost ≡ true → t.head ≡ NoHead → FTold r t
-  told : (h : Head) → t.lost ≡ false → t.head ≡ OneHead h → HeadOf r t.course h → FTold r t
+  silent : t.lost ≡ true → t.head ≡ None → FTold r t
+  told : (h : Head) → t.lost ≡ false → t.head ≡ Some h → HeadOf r t.course h → FTold r t
 
 fsync_told : (n : ℕ) (c : Course) (r : Reading) (last : Corr) → FTold r (fsync_of n c r last)
 unfolding fsync_of
@@ -73,8 +73,8 @@ fsync_told n c r last = if_either (FTold r) _ _ _ (λ e. silent refl refl) (λ e
 
 -- ---- a reading with the parity known: one head, or a loss
 pub data TellsOne (r : Reading) (k : Taken) : Type 0 where
-  mute : k.lost ≡ true → k.first ≡ NoHead → k.second ≡ NoHead → TellsOne r k
-  sole : (h : Head) → k.lost ≡ false → k.first ≡ OneHead h → k.second ≡ NoHead → HeadOf r k.course h → TellsOne r k
+  mute : k.lost ≡ true → k.first ≡ None → k.second ≡ None → TellsOne r k
+  sole : (h : Head) → k.lost ≡ false → k.first ≡ Some h → k.second ≡ None → HeadOf r k.course h → TellsOne r k
 
 ssync_tells : (odd : Bool) (c : Course) (r : Reading) → TellsOne r (ssync_taken odd c r)
 unfolding ssync_taken ssync_of
@@ -94,9 +94,9 @@ known_tells n p c r = if_both (TellsOne r) p.due _ _ (ssync_tells p.odd c r) (fs
 
 -- ---- head one: one head, head zero too, or a loss
 pub data TellsTwo (r : Reading) (k : Taken) : Type 0 where
-  missed : (g : Head) → g.theta % 2 ≡ 0 → k.lost ≡ true → k.first ≡ OneHead g → k.second ≡ NoHead → TellsTwo r k
-  alone : (h : Head) → k.lost ≡ false → k.first ≡ OneHead h → k.second ≡ NoHead → HeadOf r k.course h → TellsTwo r k
-  pair : (g h : Head) → g.theta % 2 ≡ 0 → k.lost ≡ false → k.first ≡ OneHead g → k.second ≡ OneHead h → HeadOf r k.course h → TellsTwo r k
+  missed : (g : Head) → g.theta % 2 ≡ 0 → k.lost ≡ true → k.first ≡ Some g → k.second ≡ None → TellsTwo r k
+  alone : (h : Head) → k.lost ≡ false → k.first ≡ Some h → k.second ≡ None → HeadOf r k.course h → TellsTwo r k
+  pair : (g h : Head) → g.theta % 2 ≡ 0 → k.lost ≡ false → k.first ≡ Some g → k.second ≡ Some h → HeadOf r k.course h → TellsTwo r k
 
 both_tells : (n : ℕ) (z : Reading) (c : Course) (r : Reading) → TellsTwo r (both_heads n z c r)
 unfolding both_heads fsync_taken ssync_of head_of

@@ -2,10 +2,11 @@
 use Rattle.std.specs.Prelude.{◌≡◌, true, List, [], ◌∷◌, ℕ, ◌^◌, ◌<◌, ℤ, length, get_or, pos}
 use Rattle.std.specs.Int.{w8, w16}
 use Rattle.std.proofs.Common.{SFits}
+use Rattle.refusal.specs.Refusals.{state_after}
 use Rattle.receiver.specs.declared.Receiver.{Receiver}
 use Rattle.receiver.specs.Symbol.{Input, Lent}
 use Rattle.receiver.specs.Ranges.{receiver_in_range}
-use Rattle.receiver.specs.Answers.{new_answer, symbol_answer, points_answer, taps_answer, open_answer, end_answer, restart_answer}
+use Rattle.receiver.specs.Answers.{code_in, receiver_left, receiver_ended, new_answer, symbol_answer, points_answer, taps_answer, open_answer, end_answer, restart_answer}
 use Rattle.receiver_range.specs.Coherent.{CoherentReceiver}
 
 -- a symbol with what is lent; a constellation; taps and their frame; sums opened and ended; a restart
@@ -17,22 +18,23 @@ pub data Call : Type 0 where
   ends : Call
   restarts : ℕ → List ℕ → Call
 
+-- the number of a call's refusal, 0 if it is accepted
 unfoldable pub refusal_of : Receiver → Call → ℕ
-refusal_of r (symbol x l) = (symbol_answer r x l).refusal
-refusal_of r (points bits ps k) = (points_answer r bits ps k).refusal
-refusal_of r (taps ts frame) = (taps_answer r ts frame).refusal
-refusal_of r (opens frame) = (open_answer r frame).refusal
-refusal_of r ends = (end_answer r).refusal
-refusal_of r (restarts at acc) = (restart_answer r at acc).refusal
+refusal_of r (symbol x l) = code_in (symbol_answer r x l)
+refusal_of r (points bits ps k) = code_in (points_answer r bits ps k)
+refusal_of r (taps ts frame) = code_in (taps_answer r ts frame)
+refusal_of r (opens frame) = code_in (open_answer r frame)
+refusal_of r ends = code_in (end_answer r)
+refusal_of r (restarts at acc) = code_in (restart_answer r at acc)
 
--- the receiver that a call on r answers
+-- the receiver that a call on r answers, or hands back
 unfoldable pub receiver_of : Receiver → Call → Receiver
-receiver_of r (symbol x l) = (symbol_answer r x l).receiver
-receiver_of r (points bits ps k) = (points_answer r bits ps k).receiver
-receiver_of r (taps ts frame) = (taps_answer r ts frame).receiver
-receiver_of r (opens frame) = (open_answer r frame).receiver
-receiver_of r ends = (end_answer r).receiver
-receiver_of r (restarts at acc) = (restart_answer r at acc).receiver
+receiver_of r (symbol x l) = receiver_left (symbol_answer r x l)
+receiver_of r (points bits ps k) = state_after (points_answer r bits ps k)
+receiver_of r (taps ts frame) = state_after (taps_answer r ts frame)
+receiver_of r (opens frame) = state_after (open_answer r frame)
+receiver_of r ends = receiver_ended (end_answer r)
+receiver_of r (restarts at acc) = state_after (restart_answer r at acc)
 
 -- .. and after several
 unfoldable pub receiver_after : Receiver → List Call → Receiver
@@ -67,4 +69,4 @@ pub record Sound (r : Receiver) : Type 0 where
 
 -- .. that is, of any that `new` answers and any calls then leave
 abbrev pub CallsKeep : Type 0
-CallsKeep = (at : ℕ) (step : ℤ) (acc : List ℕ) (cs : List Call) → CallsFit cs → Sound (receiver_after (new_answer at step acc).receiver cs)
+CallsKeep = (at : ℕ) (step : ℤ) (acc : List ℕ) (cs : List Call) → CallsFit cs → Sound (receiver_after (state_after (new_answer at step acc)) cs)

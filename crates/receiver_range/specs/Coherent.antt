@@ -1,5 +1,5 @@
 -- What is true together of the numbers of a receiver that came from calls: docs/RANGES.md, under Receiver, what is told jointly.
-use Rattle.std.specs.Prelude.{◌≡◌, true, ◌⊎◌, ℕ, ◌+◌, ◌-◌, ◌*◌, ◌%◌, ◌^◌, ◌≤◌, ◌<◌, pos, nat_abs, length, ◌≤ℤ◌}
+use Rattle.std.specs.Prelude.{◌≡◌, true, ◌⊎◌, ℕ, ◌+◌, ◌-◌, ◌*◌, ◌%◌, ◌^◌, ◌≤◌, ◌<◌, pos, nat_abs, length, ◌≤ℤ◌, Option, None, Some}
 use Rattle.sync_corr.specs.Rows.{Bounded}
 use Rattle.sync_lock.specs.declared.Lock.TheVariants.{Locked}
 use Rattle.sync_heads.specs.declared.Head.{Head}
@@ -10,17 +10,12 @@ use Rattle.sync_step.specs.declared.Run.{Run}
 use Rattle.sync_range.specs.Coherent.{rotated, corr_most, Coherent as CoherentSync}
 use Rattle.carrier.specs.declared.Nco.{Nco}
 use Rattle.carrier.specs.declared.Steps.{Steps}
-use Rattle.carrier.specs.declared.Trail.{Trail}
-use Rattle.carrier.specs.declared.Trail.TheVariants.{Empty, Since}
 use Rattle.carrier.specs.Coherent.{Coherent as CoherentNco}
 use Rattle.phase.specs.declared.Held.{Held}
-use Rattle.phase.specs.declared.SlotPhase.{SlotPhase}
-use Rattle.phase.specs.declared.SlotPhase.TheVariants.{Idle, Holds}
 use Rattle.sums.specs.declared.Sums.{Sums}
 use Rattle.eq_train.specs.Train.{nth}
 use Rattle.eq_range.specs.Coherent.{Coherent as CoherentEq}
 use Rattle.frame_line.specs.declared.Meta.{Meta}
-use Rattle.frame_line.specs.declared.LastAt.TheVariants.{Never, At}
 use Rattle.frame.specs.declared.Back.{Back}
 use Rattle.receiver_slot.specs.declared.Points.{Points}
 use Rattle.receiver.specs.declared.Receiver.{Receiver}
@@ -30,9 +25,9 @@ pub record StepsEven (s : Steps) : Type 0 where
   pub last : s.last_ss % 2 ≡ 0
   pub high : s.sum ≤ℤ pos (s.steps * (2 ^ 31 - 2))
 
-abbrev pub TrailEven : Trail → Type 0
-TrailEven Empty = Unit {0}
-TrailEven (Since s) = StepsEven s
+abbrev pub TrailEven : Option Steps → Type 0
+TrailEven None = Unit {0}
+TrailEven (Some s) = StepsEven s
 
 pub record NcoFits (n : Nco) : Type 0 where
   pub coherent : CoherentNco n
@@ -64,15 +59,15 @@ pub record HeldFits (r : Run) (x : Held) : Type 0 where
   pub some : 1 ≤ x.count
   pub few : x.count ≤ 9296
 
-abbrev pub PhaseFits : Run → SlotPhase → Type 0
-PhaseFits r Idle = Unit {0}
-PhaseFits r (Holds x) = HeldFits r x
+abbrev pub PhaseFits : Run → Option Held → Type 0
+PhaseFits r None = Unit {0}
+PhaseFits r (Some x) = HeldFits r x
 
 -- ---- alignment: nothing has come yet ..
 pub record Untouched (b : Back) : Type 0 where
   pub none : b.metas.count ≡ 0
   pub empty : b.eq.filled ≡ 0
-  pub last : b.last ≡ Never
+  pub last : b.last ≡ None
 
 -- .. or whole slots have, and the next one, whose head stands at a position, adjoins
 pub record Waits (k at : ℕ) (m : Meta) : Type 0 where
@@ -85,7 +80,7 @@ pub record Adjoins (at : ℕ) (b : Back) : Type 0 where
   pub full : b.eq.filled ≡ 11
   pub before : ℕ
   pub next : before + 1 ≡ at
-  pub last : b.last ≡ At before
+  pub last : b.last ≡ Some before
   pub low : 55776 ≤ at
   pub first : Waits 0 at b.metas.first
   pub second : Waits 1 at b.metas.second
@@ -94,9 +89,9 @@ pub record Adjoins (at : ℕ) (b : Back) : Type 0 where
   pub fifth : Waits 4 at b.metas.fifth
 
 -- the slot phase holds a head wherever whole slots have come
-abbrev pub BackFits : SlotPhase → Back → Type 0
-BackFits Idle b = Untouched b
-BackFits (Holds x) b = Untouched b ⊎ Adjoins x.head.at b
+abbrev pub BackFits : Option Held → Back → Type 0
+BackFits None b = Untouched b
+BackFits (Some x) b = Untouched b ⊎ Adjoins x.head.at b
 
 -- references are of size 724: a product with one is of size at most 2 x 2^15 x 724, and each right-hand entry a sum of such
 abbrev pub right_most : ℕ

@@ -19,7 +19,11 @@ use Rattle.receiver.specs.Symbol.{Lent}
 use Rattle.receiver.specs.Feed.{feed_of}
 use Rattle.receiver_feed.specs.Answers.{feed_answer}
 use Rattle.receiver_feed.specs.declared.Fed.{Fed}
-use Rattle.receiver_play.specs.Play.{Course, block, course, lent_of, play_from}
+use Rattle.receiver_play.specs.declared.Played.{Played}
+use Rattle.receiver.specs.declared.Receiver.{Receiver}
+use Rattle.refusal.specs.declared.Refused.{Refused}
+use Rattle.std.specs.Prelude.{Result}
+use Rattle.receiver_play.specs.Play.{Course, block, course, lent_of, play_from, played_of}
 use Rattle.receiver_calls.specs.declared.kept.Kept.{Kept}
 use Rattle.receiver_calls.specs.declared.kept.Turn.{Turn}
 use Rattle.receiver_calls.specs.Calls.{plain, played_turn}
@@ -49,7 +53,7 @@ put_is p l a k x ea ek ex =
     rw (none, ex, take_all k (drop a l) long, front, back) (ap (λ (r : List ℤ). take (at p 1) l ++ r) (append-nil _))
 
 -- ---- symbols, with parts lent of as many entries as there are
-pub lent_is : (go : List ℤ → Lent → Course) (k : Kept) (p : List ℕ) (table : List ℤ) (acc : List ℕ) (store soft input : List ℤ) (t a b d : ℕ) (m : Fed) (acc' : List ℕ) (store' soft' : List ℤ) (r : Turn) → t ≡ least_of (at p 2) (length table) → a ≡ least_of (at p 3) (length acc) → b ≡ least_of (at p 4) (length store) → d ≡ least_of (at p 5) (length soft) → course m (lent_of acc' store' soft') ≡ go (take t table) (lent_of (take a acc) (take b store) (take d soft)) → r ≡ played_turn k m → moved r table (acc' ++ drop a acc) (store' ++ drop b store) (soft' ++ drop d soft) input ≡ lent_call go p (all k table acc store soft input)
+pub lent_is : (go : List ℤ → Lent → Course) (k : Kept) (p : List ℕ) (table : List ℤ) (acc : List ℕ) (store soft input : List ℤ) (t a b d : ℕ) (m : Played) (acc' : List ℕ) (store' soft' : List ℤ) (r : Turn) → t ≡ least_of (at p 2) (length table) → a ≡ least_of (at p 3) (length acc) → b ≡ least_of (at p 4) (length store) → d ≡ least_of (at p 5) (length soft) → course m (lent_of acc' store' soft') ≡ go (take t table) (lent_of (take a acc) (take b store) (take d soft)) → r ≡ played_turn k m → moved r table (acc' ++ drop a acc) (store' ++ drop b store) (soft' ++ drop d soft) input ≡ lent_call go p (all k table acc store soft input)
 unfolding lent_call
 lent_is go k p table acc store soft input t a b d m acc' store' soft' r et ea eb ed e er =
     let ts : take t table ≡ take (at p 2) table = rw et (take_least (at p 2) table) in
@@ -63,16 +67,16 @@ lent_is go k p table acc store soft input t a b d m acc' store' soft' r et ea eb
     rw (er, ← g, ar, br, dr)
 
 -- .. one by one
-pub play_is : (k : Kept) (p : List ℕ) (table : List ℤ) (l : Lent) (n : ℕ) (x : List ℤ) (m : Fed) (l' : Lent) → n ≡ least_of (at p 1) 72 → x ≡ symbols_of p → m ≡ (play_from (block x k.f k.s table) n 0 k.receiver l).told → l' ≡ (play_from (block x k.f k.s table) n 0 k.receiver l).lent → course m l' ≡ play_course k p table l
+pub play_is : (k : Kept) (p : List ℕ) (table : List ℤ) (l : Lent) (n : ℕ) (x : List ℤ) (m : Played) (l' : Lent) → n ≡ least_of (at p 1) 72 → x ≡ symbols_of p → m ≡ (play_from (block x k.f k.s table) n 0 k.receiver l).told → l' ≡ (play_from (block x k.f k.s table) n 0 k.receiver l).lent → course m l' ≡ play_course k p table l
 unfolding play_course
 play_is k p table l n x m l' en ex em el = rw (em, el, en, ex)
 
 -- .. by `feed`
-pub feed_is : (k : Kept) (p : List ℕ) (x table : List ℤ) (l : Lent) (n : ℕ) (m : Fed) (acc : List ℕ) (store soft : List ℤ) → n ≡ least_of (at p 1) (length x) → m ≡ feed_answer k.receiver (block (take n x) k.f k.s table) l → acc ≡ (feed_of k.receiver (block (take n x) k.f k.s table) l).lent.acc → store ≡ (feed_of k.receiver (block (take n x) k.f k.s table) l).lent.store → soft ≡ (feed_of k.receiver (block (take n x) k.f k.s table) l).lent.soft → course m (lent_of acc store soft) ≡ feed_course k p x table l
+pub feed_is : (k : Kept) (p : List ℕ) (x table : List ℤ) (l : Lent) (n : ℕ) (y : Result Fed (Refused Receiver)) (m : Played) (acc : List ℕ) (store soft : List ℤ) → n ≡ least_of (at p 1) (length x) → m ≡ played_of y → y ≡ feed_answer k.receiver (block (take n x) k.f k.s table) l → acc ≡ (feed_of k.receiver (block (take n x) k.f k.s table) l).lent.acc → store ≡ (feed_of k.receiver (block (take n x) k.f k.s table) l).lent.store → soft ≡ (feed_of k.receiver (block (take n x) k.f k.s table) l).lent.soft → course m (lent_of acc store soft) ≡ feed_course k p x table l
 unfolding feed_course
-feed_is k p x table l n m acc store soft en em ea es ef =
+feed_is k p x table l n y m acc store soft en em ey ea es ef =
     let xs : take n x ≡ take (at p 1) x = rw en (take_least (at p 1) x) in
-    rw (em, ea, es, ef, xs)
+    rw (em, ey, ea, es, ef, xs)
 
 -- ---- a call that there is not
 pub stores-none : (n : ℕ) (p : List ℕ) (a : All) → 9 ≤ n → unmoved a (plain a.kept 255) ≡ stores_of n p a

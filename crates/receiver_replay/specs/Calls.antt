@@ -6,7 +6,7 @@ use Rattle.receiver_feed.specs.Answers.{feed_answer}
 use Rattle.receiver.specs.Answers.{new_answer, new_acc, restart_answer, restart_acc}
 use Rattle.digest.specs.Digest.{digest_of, naturals_of}
 use Rattle.fields.specs.Fields.{at, signed32, least_of, four_told}
-use Rattle.receiver_play.specs.Play.{Course, block, course, lent_of, play_from}
+use Rattle.receiver_play.specs.Play.{Course, block, course, lent_of, play_from, played_of}
 use Rattle.receiver_calls.specs.declared.kept.Kept.{Kept}
 use Rattle.receiver_calls.specs.declared.kept.Turn.{Turn}
 use Rattle.receiver_calls.specs.Kept.{turned}
@@ -71,7 +71,7 @@ play_call p a = lent_call (play_course a.kept p) p a
 unfoldable pub feed_course : Kept → List ℕ → List ℤ → List ℤ → Lent → Course
 feed_course k p x table l =
     let b = block (take (at p 1) x) k.f k.s table in
-    course (feed_answer k.receiver b l) (feed_of k.receiver b l).lent
+    course (played_of (feed_answer k.receiver b l)) (feed_of k.receiver b l).lent
 
 abbrev pub feed_call : List ℕ → List ℤ → All → Moved
 feed_call p x a = lent_call (feed_course a.kept p x) p a

@@ -34,7 +34,7 @@ fn with(
             stores::feed(k, p, &x, table, acc, store, soft)
         }
         6 => {
-            fields::set_natural(p, acc);
+            fields::set(p, acc);
             receiver_calls::plain(k, 0)
         }
         7 => {
@@ -84,6 +84,6 @@ pub(crate) fn replace(
     let t = turn(p[0], k, &p, table, acc, store, soft, input);
     let a = t.told;
     let bytes = wire::packed(&a);
-    wire::streams::put(&bytes, buf, at);
+    wire::ranged::put(&bytes, buf, at);
     t.kept
 }

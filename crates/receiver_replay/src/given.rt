@@ -11,10 +11,8 @@ fn copy(p: &[u64; 24], from: usize, to: &mut [i8])
 {
     let bytes = wire::packed(p);
     let n = fields::least((192 - from) as u64, to.len());
-    let mut k: usize = 0;
-    while k < n {
+    for k in 0..n {
         to[k] = fields::plain::one(bytes[from + k]);
-        k += 1;
     }
 }
 

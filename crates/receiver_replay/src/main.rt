@@ -21,14 +21,6 @@ use sync_step::{Event, Events};
 // 256 calls.
 const BLOCK: usize = 49152;
 
-// What a block of input leaves to do.
-#[derive(Clone, Copy)]
-enum Next {
-    Block,
-    Nothing,
-    Short,
-}
-
 // Each call of the first n replaced by its answer.
 fn replay(
     k: Kept,
@@ -45,83 +37,10 @@ fn replay(
         × (all result table.new acc.new store.new soft.new input.new ≡ left_of (all k table.old acc.old store.old soft.old input.old) n buf.old) }
 {
     let mut s = k;
-    let mut i: usize = 0;
-    while i < n {
+    for i in 0..n {
         s = call::replace(s, buf, 192 * i, table, acc, store, soft, input);
-        i += 1;
     }
     s
-}
-
-// What is kept after a block, and what is to be done.
-#[derive(Clone, Copy)]
-struct Left {
-    kept: Kept,
-    next: Next,
-}
-
-fn next_of(got: usize, whole: usize, all: usize) -> Next {
-    if whole < got {
-        Next::Short
-    } else if got < all {
-        Next::Nothing
-    } else {
-        Next::Block
-    }
-}
-
-// Reads a block of calls and writes their answers.
-fn block(
-    rt: &HostRuntime,
-    k: Kept,
-    buf: &mut [u8],
-    table: &mut [i16],
-    acc: &mut [u32],
-    store: &mut [i16],
-    soft: &mut [i8],
-    input: &mut [i8],
-) -> io::Result<Left> {
-    let got = wire::streams::read_full(&mut rt.stdin(), buf)?;
-    let n = got / 192;
-    let whole = 192 * n;
-    let s = replay(k, buf, n, table, acc, store, soft, input);
-    rt.stdout().write_all(&buf[..whole])?;
-    Ok(Left {
-        kept: s,
-        next: next_of(got, whole, buf.len()),
-    })
-}
-
-// A proved loop has to end, and nothing says that the input does: the turns are counted down from a number that no run uses up.
-fn blocks(
-    rt: &HostRuntime,
-    k: Kept,
-    buf: &mut [u8],
-    table: &mut [i16],
-    acc: &mut [u32],
-    store: &mut [i16],
-    soft: &mut [i8],
-    input: &mut [i8],
-) -> io::Result<()> {
-    let mut s = k;
-    let mut turns = u64::MAX;
-    while 0 < turns {
-        let l = block(rt, s, buf, table, acc, store, soft, input)?;
-        s = l.kept;
-        let n = l.next;
-        match n {
-            Next::Block => {
-                turns -= 1;
-            }
-            Next::Nothing => {
-                return Ok(());
-            }
-            Next::Short => {
-                return rt.stderr().write_all(b"the input ends within a call\n");
-            }
-        }
-    }
-    Ok(())
 }
 
 // A read or a write that fails ends the replay with its error.
@@ -132,10 +51,12 @@ fn main(rt: HostRuntime) -> io::Result<()> {
     let mut store = [0i16; 18593];
     let mut soft = [85i8; 50000];
     let mut input = [0i8; 40000];
-    let a = receiver::new(0, 0, &mut acc);
-    let r = a.receiver;
+    let r = match receiver::new(0, 0, &mut acc) {
+        Ok(r) => r,
+        Err(x) => x.state,
+    };
     let s = sums::new(0);
-    let k = Kept {
+    let mut k = Kept {
         receiver: r,
         sums: s,
         f: [0; 48],
@@ -146,7 +67,11 @@ fn main(rt: HostRuntime) -> io::Result<()> {
             third: Event::Nothing,
         },
     };
-    blocks(
-        &rt, k, &mut buf, &mut table, &mut acc, &mut store, &mut soft, &mut input,
-    )
+    wire::ranged::replay(&rt, &mut buf, 192, |calls: &mut [u8]| -> io::Result<()> {
+        let n = calls.len() / 192;
+        k = replay(
+            k, calls, n, &mut table, &mut acc, &mut store, &mut soft, &mut input,
+        );
+        rt.stdout().write_all(calls)
+    })
 }

@@ -5,31 +5,29 @@ ghost use Rattle.receiver_replay.specs.Calls.{new_turn, new_left, restart_turn, 
 use crate::given;
 use receiver_calls::kept;
 use receiver_calls::kept::{Kept, Turn};
+use wire::Field;
 
 pub(crate) fn new(k: Kept, p: &[u64; 24], acc: &mut [u32]) -> Turn
     ensures { (result ≡ new_turn k p.now acc.old) × (acc.new ≡ new_left p.now acc.old) }
 {
     let n = fields::least(p[3], acc.len());
-    let a = receiver::new(p[1], wire::signed32(p[2]), &mut acc[..n]);
-    receiver_calls::answered(k, a)
+    receiver_calls::answered(k, receiver::new(p[1], i32::of_bits(p[2]), &mut acc[..n]))
 }
 
 pub(crate) fn restart(k: Kept, p: &[u64; 24], acc: &mut [u32]) -> Turn
     ensures { (result ≡ restart_turn k p.now acc.old) × (acc.new ≡ restart_left k p.now acc.old) }
 {
     let n = fields::least(p[3], acc.len());
-    let r = k.receiver;
-    let a = receiver::restart(r, p[1], &mut acc[..n]);
-    receiver_calls::answered(k, a)
+    receiver_calls::answered(k, receiver::restart(k.receiver, p[1], &mut acc[..n]))
 }
 
 pub(crate) fn look(k: Kept, acc: &[u32], store: &[i16], soft: &[i8]) -> Turn
     ensures { result ≡ look_turn k acc.now store.now soft.now }
 {
-    let a = digest::of_u32(acc);
-    let b = digest::of_i16(store);
-    let c = digest::of_i8(soft);
-    kept::turned(k, fields::four(0, a, b, c))
+    kept::turned(
+        k,
+        fields::four(0, digest::of(acc), digest::of(store), digest::of(soft)),
+    )
 }
 
 pub(crate) fn play(
@@ -48,15 +46,12 @@ pub(crate) fn play(
     let a = fields::least(p[3], acc.len());
     let b = fields::least(p[4], store.len());
     let c = fields::least(p[5], soft.len());
-    let r = k.receiver;
-    let f = k.f;
-    let s = k.s;
     let d = receiver_play::ranged::play(
-        r,
+        k.receiver,
         n,
         &x,
-        f,
-        s,
+        k.f,
+        k.s,
         &table[..t],
         &mut acc[..a],
         &mut store[..b],
@@ -82,18 +77,15 @@ pub(crate) fn feed(
     let a = fields::least(p[3], acc.len());
     let b = fields::least(p[4], store.len());
     let c = fields::least(p[5], soft.len());
-    let r = k.receiver;
-    let f = k.f;
-    let s = k.s;
     let d = receiver_feed::feed(
-        r,
+        k.receiver,
         &x[..m],
-        f,
-        s,
+        k.f,
+        k.s,
         &table[..t],
         &mut acc[..a],
         &mut store[..b],
         &mut soft[..c],
     );
-    receiver_calls::played(k, d)
+    receiver_calls::played(k, receiver_play::of_feed(d))
 }

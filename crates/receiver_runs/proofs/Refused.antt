@@ -40,9 +40,9 @@ use Rattle.receiver.specs.Answers as receiver-answers
 use Rattle.receiver_runs.specs.Refused as refused
 
 pub tries_right : refused.tried refused.fresh (refused.stores 9296 18592 44880) refused.tries ≡ refused.tries_said
-unfolding laws-choice.when◌then◌else◌ laws-ranges.min_z laws-ranges.least_of laws-ranges.firsts fx-fx.round_shift fx-fx.div_round fx-fx.mag_approx fx-fx.sat16_of fx-fx.sat127_of fx-fx.signed_angle fx-fx.round_index fx-fx.cos_sin_at fx-cordic.cordic_angles fx-cordic.right_half fx-cordic.cordic_start fx-cordic.cordic_step fx-cordic.cordic_steps fx-cordic.cordic_of sync-corr.at sync-corr.corr_re sync-corr.corr_im sync-corr.corr sync-corr.both_of sync-corr.size_of sync-corr.ones_to sync-corr.ones_of sync-lock-period.leak_of sync-lock-period.no_tally sync-lock-period.added_of sync-lock-period.counted_of sync-lock-period.counts_of sync-lock-rule.sought_of sync-lock-rule.search_of sync-lock-rule.held_of sync-lock-rule.rule_of sync-lock-rule.lock_after sync-lock-rule.locked_at sync-lock-ranges.lock_in_range sync-heads-words.side_of sync-heads-words.margin_of sync-heads-words.negated sync-heads-words.said_of sync-heads-frames.marks_of sync-heads-frames.swayed_of sync-heads-frames.next_slot sync-heads-frames.unknown_slot sync-heads-frames.frame_due sync-heads-frames.gap_of sync-heads-frames.frame_of sync-heads-frames.framed_of sync-heads-frames.tick_of sync-heads-frames.due_of sync-heads-frames.elsewhere_of sync-heads-frames.fsync_course sync-heads-heads.head_of sync-heads-heads.is_fsync sync-heads-heads.ssync_of sync-heads-heads.fsync_of sync-heads-heads.ssync_taken sync-heads-heads.fsync_taken sync-heads-heads.known_of sync-heads-heads.both_heads sync-heads-heads.first_of sync-heads-heads.read_of sync-heads-ranges.corr_in_range sync-heads-ranges.slot_in_range sync-heads-ranges.record_in_range sync-heads-ranges.course_in_range sync-step-events.is_nothing sync-step-events.event_of sync-step-events.no_events sync-step-events.heads_of sync-step-events.then_of sync-step-events.no_corr sync-step-step.started_of sync-step-step.place_of sync-step-step.reading_of sync-step-step.taken_of sync-step-step.after_of sync-step-step.lost_of sync-step-step.parity_of sync-step-step.is_locked sync-step-step.offset_of sync-step-step.stats_of sync-step-step.lost_at_end sync-step-step.loses_of sync-step-step.with_lock sync-step-step.kept_of sync-step-step.ended_of sync-step-step.late_of sync-step-step.early_of sync-step-step.step_of sync.window_after sync.no_window sync.started_sync sync.stored_of sync.kept_window sync.symbol_of angles.angle_of angles.turned_by angles.turn_from angles.turned_back carrier-carrier.started_nco carrier-carrier.rotated_of carrier-carrier.advanced_nco carrier-carrier.tuned carrier-carrier.ssync_heard carrier-carrier.trail_heard carrier-carrier.word_heard carrier-carrier.heard_of phase.gain_of phase.begun_of phase.counted_in phase.pushed_in phase.stored_in phase.per_symbol phase.whole_of phase.due_in phase.phase_at phase.gain_at phase.scaled_of phase.symbol_at phase.corrected_of sums.empty_sums sums.upper_at eq-fir.line_after eq-fir.no_line eq-fir.identity_taps eq-fir.term_added eq-fir.filtered eq-fir.output_of eq-train-train.conj_product eq-train-train.line_product eq-train-train.right_product eq-train-train.row_products eq-train-train.upper_products eq-train-train.right_products eq-train-train.added eq-train-train.trained_sums eq-train-ranges.diagonal_in_range eq-train-ranges.product_in_range eq-train-ranges.entry_in_range eq-train-ranges.row_in_range eq-train-ranges.upper_in_range eq.started_eq eq.pushed_eq eq.output_at eq.with_sums eq.loaded_eq eq.trains_eq eq.trained_eq demap.squared_distance demap.metric_of demap.label_metric demap.gap_of demap.soft_of demap.soft_at demap.soft_bits frame-map-map.runs frame-map-map.fields frame-map-map.none_seen frame-map-map.also_seen frame-map-map.indexed frame-map-map.part_in frame-map-map.part_of frame-map-reference.scaled_of frame-map-reference.reference_of frame-line.blank frame-line.no_metas frame-line.meta_of frame-line.placed_at frame-line.joined frame-line.moved frame-line.gap_at frame-align.started_back frame-align.restarted_back frame-align.joined_to frame-align.equalised_by frame-align.trained_part frame-align.trained_at frame-align.taken_by frame-align.pushed_back frame-align.is_sync frame-answers.trains_back frame-answers.full_back frame-stretch.after_all receiver-slot.corrected_all receiver-slot.aligned_by receiver-slot.aligned_all receiver-slot.overfull receiver-slot.due_symbols receiver-slot.points_for receiver-slot.soft_of receiver-slot.soft_all receiver-slot.written_on receiver-slot.no_run receiver-slot.run_of receiver-slot.waiting_before receiver-slot.runs_of receiver-started.started receiver-started.no_points receiver-started.new_kept receiver-started.kept_of receiver-heads.or_due receiver-heads.event_heard receiver-heads.listened receiver-heads.is_lost receiver-heads.loses_in receiver-symbol.next_of receiver-symbol.slot_past receiver-symbol.rotated receiver-symbol.synced receiver-symbol.window receiver-symbol.sync_left receiver-symbol.heads receiver-symbol.slot receiver-symbol.aligned receiver-symbol.back23 receiver-symbol.enough receiver-symbol.left receiver-symbol.lost receiver-symbol.receiver_after receiver-symbol.acc_after receiver-symbol.store_after receiver-symbol.soft_after receiver-symbol.lent_after receiver-symbol.runs receiver-symbol.past receiver-symbol.full receiver-bounds.within receiver-bounds.all_within receiver-bounds.even receiver-bounds.steps_within receiver-bounds.trail_within receiver-bounds.nco_within receiver-bounds.corr_within receiver-bounds.first_within receiver-bounds.stage_within receiver-bounds.tally_within receiver-bounds.run_within receiver-bounds.head_within receiver-bounds.held_within receiver-bounds.phase_within receiver-bounds.sums_within receiver-bounds.eq_within receiver-bounds.meta_within receiver-bounds.metas_within receiver-bounds.last_within receiver-bounds.back_within receiver-bounds.points_within receiver-ranges.front_within receiver-ranges.receiver_in_range receiver-answers.new_answer receiver-answers.stores_fit receiver-answers.symbol_refusal receiver-answers.no_runs receiver-answers.symbol_answer receiver-answers.symbol_lent receiver-answers.loaded_points receiver-answers.points_refusal receiver-answers.with_points receiver-answers.points_answer receiver-answers.with_eq receiver-answers.eq_answer receiver-answers.taps_answer receiver-answers.open_answer receiver-answers.end_answer receiver-answers.restart_refusal receiver-answers.restart_answer receiver-answers.restart_acc refused.said refused.with_acc refused.tried refused.stores refused.input refused.good refused.fresh refused.spoilt refused.bpsk refused.tries refused.tries_said refused.held_head refused.waits refused.brimming refused.later refused.first refused.counts refused.counts_full
+unfolding laws-choice.when◌then◌else◌ laws-ranges.min_z laws-ranges.least_of laws-ranges.firsts fx-fx.round_shift fx-fx.div_round fx-fx.mag_approx fx-fx.sat16_of fx-fx.sat127_of fx-fx.signed_angle fx-fx.round_index fx-fx.cos_sin_at fx-cordic.cordic_angles fx-cordic.right_half fx-cordic.cordic_start fx-cordic.cordic_step fx-cordic.cordic_steps fx-cordic.cordic_of sync-corr.at sync-corr.corr_re sync-corr.corr_im sync-corr.corr sync-corr.both_of sync-corr.size_of sync-corr.ones_to sync-corr.ones_of sync-lock-period.leak_of sync-lock-period.no_tally sync-lock-period.added_of sync-lock-period.counted_of sync-lock-period.counts_of sync-lock-rule.sought_of sync-lock-rule.search_of sync-lock-rule.held_of sync-lock-rule.rule_of sync-lock-rule.lock_after sync-lock-rule.locked_at sync-lock-ranges.lock_in_range sync-heads-words.side_of sync-heads-words.margin_of sync-heads-words.negated sync-heads-words.said_of sync-heads-frames.marks_of sync-heads-frames.swayed_of sync-heads-frames.next_slot sync-heads-frames.unknown_slot sync-heads-frames.frame_due sync-heads-frames.gap_of sync-heads-frames.frame_of sync-heads-frames.framed_of sync-heads-frames.tick_of sync-heads-frames.due_of sync-heads-frames.elsewhere_of sync-heads-frames.fsync_course sync-heads-heads.head_of sync-heads-heads.is_fsync sync-heads-heads.ssync_of sync-heads-heads.fsync_of sync-heads-heads.ssync_taken sync-heads-heads.fsync_taken sync-heads-heads.known_of sync-heads-heads.both_heads sync-heads-heads.first_of sync-heads-heads.read_of sync-heads-ranges.corr_in_range sync-heads-ranges.slot_in_range sync-heads-ranges.record_in_range sync-heads-ranges.course_in_range sync-step-events.is_nothing sync-step-events.event_of sync-step-events.no_events sync-step-events.heads_of sync-step-events.then_of sync-step-events.no_corr sync-step-step.started_of sync-step-step.place_of sync-step-step.reading_of sync-step-step.taken_of sync-step-step.after_of sync-step-step.lost_of sync-step-step.odd_of sync-step-step.is_locked sync-step-step.locked_offset sync-step-step.stats_of sync-step-step.lost_at_end sync-step-step.loses_of sync-step-step.with_lock sync-step-step.kept_of sync-step-step.ended_of sync-step-step.late_of sync-step-step.early_of sync-step-step.step_of sync.window_after sync.no_window sync.started_sync sync.stored_of sync.kept_window sync.symbol_of angles.angle_of angles.turned_by angles.turn_from angles.turned_back carrier-carrier.started_nco carrier-carrier.rotated_of carrier-carrier.advanced_nco carrier-carrier.tuned carrier-carrier.ssync_heard carrier-carrier.since_head carrier-carrier.trail_heard carrier-carrier.word_heard carrier-carrier.heard_of phase.gain_of phase.begun_of phase.counted_in phase.pushed_in phase.stored_in phase.per_symbol phase.whole_of phase.due_in phase.phase_at phase.gain_at phase.scaled_of phase.symbol_at phase.corrected_of sums.empty_sums sums.upper_at eq-fir.line_after eq-fir.no_line eq-fir.identity_taps eq-fir.term_added eq-fir.filtered eq-fir.output_of eq-train-train.conj_product eq-train-train.line_product eq-train-train.right_product eq-train-train.row_products eq-train-train.upper_products eq-train-train.right_products eq-train-train.added eq-train-train.trained_sums eq-train-ranges.diagonal_in_range eq-train-ranges.product_in_range eq-train-ranges.entry_in_range eq-train-ranges.row_in_range eq-train-ranges.upper_in_range eq.started_eq eq.pushed_eq eq.output_at eq.with_sums eq.loaded_eq eq.trains_eq eq.trained_eq demap.squared_distance demap.metric_of demap.label_metric demap.gap_of demap.soft_of demap.soft_at demap.soft_bits frame-map-map.runs frame-map-map.fields frame-map-map.none_seen frame-map-map.also_seen frame-map-map.indexed frame-map-map.part_in frame-map-map.part_of frame-map-reference.scaled_of frame-map-reference.reference_of frame-line.blank frame-line.no_metas frame-line.meta_of frame-line.placed_at frame-line.joined frame-line.moved frame-line.gap_at frame-align.started_back frame-align.restarted_back frame-align.joined_to frame-align.equalised_by frame-align.trained_part frame-align.trained_at frame-align.taken_by frame-align.pushed_back frame-align.is_sync frame-answers.trains_back frame-answers.full_back frame-stretch.after_all receiver-slot.corrected_all receiver-slot.aligned_by receiver-slot.aligned_all receiver-slot.overfull receiver-slot.due_symbols receiver-slot.points_for receiver-slot.soft_of receiver-slot.soft_all receiver-slot.written_on receiver-slot.no_run receiver-slot.run_of receiver-slot.waiting_before receiver-slot.runs_of receiver-started.started receiver-started.no_points receiver-started.new_kept receiver-started.kept_of receiver-heads.or_due receiver-heads.event_heard receiver-heads.listened receiver-heads.is_lost receiver-heads.loses_in receiver-symbol.next_of receiver-symbol.slot_past receiver-symbol.rotated receiver-symbol.synced receiver-symbol.window receiver-symbol.sync_left receiver-symbol.heads receiver-symbol.slot receiver-symbol.aligned receiver-symbol.back23 receiver-symbol.enough receiver-symbol.left receiver-symbol.lost receiver-symbol.receiver_after receiver-symbol.acc_after receiver-symbol.store_after receiver-symbol.soft_after receiver-symbol.lent_after receiver-symbol.runs receiver-symbol.past receiver-symbol.full receiver-bounds.within receiver-bounds.all_within receiver-bounds.even receiver-bounds.steps_within receiver-bounds.trail_within receiver-bounds.nco_within receiver-bounds.corr_within receiver-bounds.first_within receiver-bounds.stage_within receiver-bounds.tally_within receiver-bounds.run_within receiver-bounds.head_within receiver-bounds.held_within receiver-bounds.phase_within receiver-bounds.sums_within receiver-bounds.eq_within receiver-bounds.meta_within receiver-bounds.metas_within receiver-bounds.last_within receiver-bounds.back_within receiver-bounds.points_within receiver-ranges.front_within receiver-ranges.receiver_in_range receiver-answers.new_answer receiver-answers.stores_fit receiver-answers.range_refusal receiver-answers.symbol_refusal receiver-answers.no_runs receiver-answers.accepted_symbol receiver-answers.symbol_answer receiver-answers.symbol_lent receiver-answers.loaded_points receiver-answers.points_refusal receiver-answers.with_points receiver-answers.points_answer receiver-answers.with_eq receiver-answers.eq_answer receiver-answers.taps_answer receiver-answers.open_answer receiver-answers.ended_of receiver-answers.end_answer receiver-answers.restart_refusal receiver-answers.restart_answer receiver-answers.restart_acc refused.said refused.with_acc refused.tried refused.stores refused.input refused.good refused.fresh refused.spoilt refused.bpsk refused.tries refused.tries_said refused.held_head refused.waits refused.brimming refused.later refused.first refused.counts refused.counts_full
 tries_right = refl
 
 pub counts_right : refused.counts ≡ refused.counts_full
-unfolding laws-choice.when◌then◌else◌ laws-ranges.min_z laws-ranges.least_of laws-ranges.firsts fx-fx.round_shift fx-fx.div_round fx-fx.mag_approx fx-fx.sat16_of fx-fx.sat127_of fx-fx.signed_angle fx-fx.round_index fx-fx.cos_sin_at fx-cordic.cordic_angles fx-cordic.right_half fx-cordic.cordic_start fx-cordic.cordic_step fx-cordic.cordic_steps fx-cordic.cordic_of sync-corr.at sync-corr.corr_re sync-corr.corr_im sync-corr.corr sync-corr.both_of sync-corr.size_of sync-corr.ones_to sync-corr.ones_of sync-lock-period.leak_of sync-lock-period.no_tally sync-lock-period.added_of sync-lock-period.counted_of sync-lock-period.counts_of sync-lock-rule.sought_of sync-lock-rule.search_of sync-lock-rule.held_of sync-lock-rule.rule_of sync-lock-rule.lock_after sync-lock-rule.locked_at sync-lock-ranges.lock_in_range sync-heads-words.side_of sync-heads-words.margin_of sync-heads-words.negated sync-heads-words.said_of sync-heads-frames.marks_of sync-heads-frames.swayed_of sync-heads-frames.next_slot sync-heads-frames.unknown_slot sync-heads-frames.frame_due sync-heads-frames.gap_of sync-heads-frames.frame_of sync-heads-frames.framed_of sync-heads-frames.tick_of sync-heads-frames.due_of sync-heads-frames.elsewhere_of sync-heads-frames.fsync_course sync-heads-heads.head_of sync-heads-heads.is_fsync sync-heads-heads.ssync_of sync-heads-heads.fsync_of sync-heads-heads.ssync_taken sync-heads-heads.fsync_taken sync-heads-heads.known_of sync-heads-heads.both_heads sync-heads-heads.first_of sync-heads-heads.read_of sync-heads-ranges.corr_in_range sync-heads-ranges.slot_in_range sync-heads-ranges.record_in_range sync-heads-ranges.course_in_range sync-step-events.is_nothing sync-step-events.event_of sync-step-events.no_events sync-step-events.heads_of sync-step-events.then_of sync-step-events.no_corr sync-step-step.started_of sync-step-step.place_of sync-step-step.reading_of sync-step-step.taken_of sync-step-step.after_of sync-step-step.lost_of sync-step-step.parity_of sync-step-step.is_locked sync-step-step.offset_of sync-step-step.stats_of sync-step-step.lost_at_end sync-step-step.loses_of sync-step-step.with_lock sync-step-step.kept_of sync-step-step.ended_of sync-step-step.late_of sync-step-step.early_of sync-step-step.step_of sync.window_after sync.no_window sync.started_sync sync.stored_of sync.kept_window sync.symbol_of angles.angle_of angles.turned_by angles.turn_from angles.turned_back carrier-carrier.started_nco carrier-carrier.rotated_of carrier-carrier.advanced_nco carrier-carrier.tuned carrier-carrier.ssync_heard carrier-carrier.trail_heard carrier-carrier.word_heard carrier-carrier.heard_of phase.gain_of phase.begun_of phase.counted_in phase.pushed_in phase.stored_in phase.per_symbol phase.whole_of phase.due_in phase.phase_at phase.gain_at phase.scaled_of phase.symbol_at phase.corrected_of sums.empty_sums sums.upper_at eq-fir.line_after eq-fir.no_line eq-fir.identity_taps eq-fir.term_added eq-fir.filtered eq-fir.output_of eq-train-train.conj_product eq-train-train.line_product eq-train-train.right_product eq-train-train.row_products eq-train-train.upper_products eq-train-train.right_products eq-train-train.added eq-train-train.trained_sums eq-train-ranges.diagonal_in_range eq-train-ranges.product_in_range eq-train-ranges.entry_in_range eq-train-ranges.row_in_range eq-train-ranges.upper_in_range eq.started_eq eq.pushed_eq eq.output_at eq.with_sums eq.loaded_eq eq.trains_eq eq.trained_eq demap.squared_distance demap.metric_of demap.label_metric demap.gap_of demap.soft_of demap.soft_at demap.soft_bits frame-map-map.runs frame-map-map.fields frame-map-map.none_seen frame-map-map.also_seen frame-map-map.indexed frame-map-map.part_in frame-map-map.part_of frame-map-reference.scaled_of frame-map-reference.reference_of frame-line.blank frame-line.no_metas frame-line.meta_of frame-line.placed_at frame-line.joined frame-line.moved frame-line.gap_at frame-align.started_back frame-align.restarted_back frame-align.joined_to frame-align.equalised_by frame-align.trained_part frame-align.trained_at frame-align.taken_by frame-align.pushed_back frame-align.is_sync frame-answers.trains_back frame-answers.full_back frame-stretch.after_all receiver-slot.corrected_all receiver-slot.aligned_by receiver-slot.aligned_all receiver-slot.overfull receiver-slot.due_symbols receiver-slot.points_for receiver-slot.soft_of receiver-slot.soft_all receiver-slot.written_on receiver-slot.no_run receiver-slot.run_of receiver-slot.waiting_before receiver-slot.runs_of receiver-started.started receiver-started.no_points receiver-started.new_kept receiver-started.kept_of receiver-heads.or_due receiver-heads.event_heard receiver-heads.listened receiver-heads.is_lost receiver-heads.loses_in receiver-symbol.next_of receiver-symbol.slot_past receiver-symbol.rotated receiver-symbol.synced receiver-symbol.window receiver-symbol.sync_left receiver-symbol.heads receiver-symbol.slot receiver-symbol.aligned receiver-symbol.back23 receiver-symbol.enough receiver-symbol.left receiver-symbol.lost receiver-symbol.receiver_after receiver-symbol.acc_after receiver-symbol.store_after receiver-symbol.soft_after receiver-symbol.lent_after receiver-symbol.runs receiver-symbol.past receiver-symbol.full receiver-bounds.within receiver-bounds.all_within receiver-bounds.even receiver-bounds.steps_within receiver-bounds.trail_within receiver-bounds.nco_within receiver-bounds.corr_within receiver-bounds.first_within receiver-bounds.stage_within receiver-bounds.tally_within receiver-bounds.run_within receiver-bounds.head_within receiver-bounds.held_within receiver-bounds.phase_within receiver-bounds.sums_within receiver-bounds.eq_within receiver-bounds.meta_within receiver-bounds.metas_within receiver-bounds.last_within receiver-bounds.back_within receiver-bounds.points_within receiver-ranges.front_within receiver-ranges.receiver_in_range receiver-answers.new_answer receiver-answers.stores_fit receiver-answers.symbol_refusal receiver-answers.no_runs receiver-answers.symbol_answer receiver-answers.symbol_lent receiver-answers.loaded_points receiver-answers.points_refusal receiver-answers.with_points receiver-answers.points_answer receiver-answers.with_eq receiver-answers.eq_answer receiver-answers.taps_answer receiver-answers.open_answer receiver-answers.end_answer receiver-answers.restart_refusal receiver-answers.restart_answer receiver-answers.restart_acc refused.said refused.with_acc refused.tried refused.stores refused.input refused.good refused.fresh refused.spoilt refused.bpsk refused.tries refused.tries_said refused.held_head refused.waits refused.brimming refused.later refused.first refused.counts refused.counts_full
+unfolding laws-choice.when◌then◌else◌ laws-ranges.min_z laws-ranges.least_of laws-ranges.firsts fx-fx.round_shift fx-fx.div_round fx-fx.mag_approx fx-fx.sat16_of fx-fx.sat127_of fx-fx.signed_angle fx-fx.round_index fx-fx.cos_sin_at fx-cordic.cordic_angles fx-cordic.right_half fx-cordic.cordic_start fx-cordic.cordic_step fx-cordic.cordic_steps fx-cordic.cordic_of sync-corr.at sync-corr.corr_re sync-corr.corr_im sync-corr.corr sync-corr.both_of sync-corr.size_of sync-corr.ones_to sync-corr.ones_of sync-lock-period.leak_of sync-lock-period.no_tally sync-lock-period.added_of sync-lock-period.counted_of sync-lock-period.counts_of sync-lock-rule.sought_of sync-lock-rule.search_of sync-lock-rule.held_of sync-lock-rule.rule_of sync-lock-rule.lock_after sync-lock-rule.locked_at sync-lock-ranges.lock_in_range sync-heads-words.side_of sync-heads-words.margin_of sync-heads-words.negated sync-heads-words.said_of sync-heads-frames.marks_of sync-heads-frames.swayed_of sync-heads-frames.next_slot sync-heads-frames.unknown_slot sync-heads-frames.frame_due sync-heads-frames.gap_of sync-heads-frames.frame_of sync-heads-frames.framed_of sync-heads-frames.tick_of sync-heads-frames.due_of sync-heads-frames.elsewhere_of sync-heads-frames.fsync_course sync-heads-heads.head_of sync-heads-heads.is_fsync sync-heads-heads.ssync_of sync-heads-heads.fsync_of sync-heads-heads.ssync_taken sync-heads-heads.fsync_taken sync-heads-heads.known_of sync-heads-heads.both_heads sync-heads-heads.first_of sync-heads-heads.read_of sync-heads-ranges.corr_in_range sync-heads-ranges.slot_in_range sync-heads-ranges.record_in_range sync-heads-ranges.course_in_range sync-step-events.is_nothing sync-step-events.event_of sync-step-events.no_events sync-step-events.heads_of sync-step-events.then_of sync-step-events.no_corr sync-step-step.started_of sync-step-step.place_of sync-step-step.reading_of sync-step-step.taken_of sync-step-step.after_of sync-step-step.lost_of sync-step-step.odd_of sync-step-step.is_locked sync-step-step.locked_offset sync-step-step.stats_of sync-step-step.lost_at_end sync-step-step.loses_of sync-step-step.with_lock sync-step-step.kept_of sync-step-step.ended_of sync-step-step.late_of sync-step-step.early_of sync-step-step.step_of sync.window_after sync.no_window sync.started_sync sync.stored_of sync.kept_window sync.symbol_of angles.angle_of angles.turned_by angles.turn_from angles.turned_back carrier-carrier.started_nco carrier-carrier.rotated_of carrier-carrier.advanced_nco carrier-carrier.tuned carrier-carrier.ssync_heard carrier-carrier.since_head carrier-carrier.trail_heard carrier-carrier.word_heard carrier-carrier.heard_of phase.gain_of phase.begun_of phase.counted_in phase.pushed_in phase.stored_in phase.per_symbol phase.whole_of phase.due_in phase.phase_at phase.gain_at phase.scaled_of phase.symbol_at phase.corrected_of sums.empty_sums sums.upper_at eq-fir.line_after eq-fir.no_line eq-fir.identity_taps eq-fir.term_added eq-fir.filtered eq-fir.output_of eq-train-train.conj_product eq-train-train.line_product eq-train-train.right_product eq-train-train.row_products eq-train-train.upper_products eq-train-train.right_products eq-train-train.added eq-train-train.trained_sums eq-train-ranges.diagonal_in_range eq-train-ranges.product_in_range eq-train-ranges.entry_in_range eq-train-ranges.row_in_range eq-train-ranges.upper_in_range eq.started_eq eq.pushed_eq eq.output_at eq.with_sums eq.loaded_eq eq.trains_eq eq.trained_eq demap.squared_distance demap.metric_of demap.label_metric demap.gap_of demap.soft_of demap.soft_at demap.soft_bits frame-map-map.runs frame-map-map.fields frame-map-map.none_seen frame-map-map.also_seen frame-map-map.indexed frame-map-map.part_in frame-map-map.part_of frame-map-reference.scaled_of frame-map-reference.reference_of frame-line.blank frame-line.no_metas frame-line.meta_of frame-line.placed_at frame-line.joined frame-line.moved frame-line.gap_at frame-align.started_back frame-align.restarted_back frame-align.joined_to frame-align.equalised_by frame-align.trained_part frame-align.trained_at frame-align.taken_by frame-align.pushed_back frame-align.is_sync frame-answers.trains_back frame-answers.full_back frame-stretch.after_all receiver-slot.corrected_all receiver-slot.aligned_by receiver-slot.aligned_all receiver-slot.overfull receiver-slot.due_symbols receiver-slot.points_for receiver-slot.soft_of receiver-slot.soft_all receiver-slot.written_on receiver-slot.no_run receiver-slot.run_of receiver-slot.waiting_before receiver-slot.runs_of receiver-started.started receiver-started.no_points receiver-started.new_kept receiver-started.kept_of receiver-heads.or_due receiver-heads.event_heard receiver-heads.listened receiver-heads.is_lost receiver-heads.loses_in receiver-symbol.next_of receiver-symbol.slot_past receiver-symbol.rotated receiver-symbol.synced receiver-symbol.window receiver-symbol.sync_left receiver-symbol.heads receiver-symbol.slot receiver-symbol.aligned receiver-symbol.back23 receiver-symbol.enough receiver-symbol.left receiver-symbol.lost receiver-symbol.receiver_after receiver-symbol.acc_after receiver-symbol.store_after receiver-symbol.soft_after receiver-symbol.lent_after receiver-symbol.runs receiver-symbol.past receiver-symbol.full receiver-bounds.within receiver-bounds.all_within receiver-bounds.even receiver-bounds.steps_within receiver-bounds.trail_within receiver-bounds.nco_within receiver-bounds.corr_within receiver-bounds.first_within receiver-bounds.stage_within receiver-bounds.tally_within receiver-bounds.run_within receiver-bounds.head_within receiver-bounds.held_within receiver-bounds.phase_within receiver-bounds.sums_within receiver-bounds.eq_within receiver-bounds.meta_within receiver-bounds.metas_within receiver-bounds.last_within receiver-bounds.back_within receiver-bounds.points_within receiver-ranges.front_within receiver-ranges.receiver_in_range receiver-answers.new_answer receiver-answers.stores_fit receiver-answers.range_refusal receiver-answers.symbol_refusal receiver-answers.no_runs receiver-answers.accepted_symbol receiver-answers.symbol_answer receiver-answers.symbol_lent receiver-answers.loaded_points receiver-answers.points_refusal receiver-answers.with_points receiver-answers.points_answer receiver-answers.with_eq receiver-answers.eq_answer receiver-answers.taps_answer receiver-answers.open_answer receiver-answers.ended_of receiver-answers.end_answer receiver-answers.restart_refusal receiver-answers.restart_answer receiver-answers.restart_acc refused.said refused.with_acc refused.tried refused.stores refused.input refused.good refused.fresh refused.spoilt refused.bpsk refused.tries refused.tries_said refused.held_head refused.waits refused.brimming refused.later refused.first refused.counts refused.counts_full
 counts_right = refl

@@ -1,14 +1,13 @@
 -- Calls of a receiver one after another, at a slot of any length, and what they tell. A call is taken as accepted: the ranges of a state hold at
 -- 9,296 only.
-use Rattle.std.specs.Prelude.{ℕ, zero, suc, ◌+◌, ◌*◌, ◌/◌, ◌%◌, Bool, true, false, List, [], ◌∷◌, ◌++◌, eqb, ltb, ℤ, pos, ◌-ℤ◌, length, replicate}
+use Rattle.sync_heads.specs.declared.SlotNumber.{SlotNumber}
+use Rattle.std.specs.Prelude.{ℕ, zero, suc, ◌+◌, ◌*◌, ◌/◌, ◌%◌, Bool, true, false, List, [], ◌∷◌, ◌++◌, eqb, ltb, ℤ, pos, ◌-ℤ◌, length, replicate, Option, None, Some, is_some, unwrap_or}
 use Rattle.laws.specs.Choice.{when◌then◌else◌, minus}
 use Rattle.wire.specs.Wire.{bits}
 use Rattle.digest.specs.Digest.{mixed_of}
 use Rattle.angles.specs.declared.Symbol.{Symbol}
 use Rattle.sync_heads.specs.declared.Word.{Word}
 use Rattle.sync_heads.specs.declared.Word.TheVariants.{Ssync, Fsync, NotFsync}
-use Rattle.sync_heads.specs.declared.Slot.{Slot}
-use Rattle.sync_heads.specs.declared.Slot.TheVariants.{Unknown, In}
 use Rattle.sync_heads.specs.declared.Head.{Head as AHead}
 use Rattle.sync_step.specs.declared.SyncStats.{SyncStats}
 use Rattle.sync_step.specs.declared.Event.{Event}
@@ -90,7 +89,7 @@ pub data Told : Type 0 where
   -- at the list's end: symbols, the next position, the carrier's phase and step, the digest of the accumulators
   left : ℕ → ℕ → ℕ → ℤ → ℕ → Told
 
-unfoldable pub head : ℕ → Word → ℤ → ℤ → ℕ → ℤ → Slot → ℕ → Event
+unfoldable pub head : ℕ → Word → ℤ → ℤ → ℕ → ℤ → Option SlotNumber → ℕ → Event
 head at word re im theta amp slot nco =
     Head (record { at = at; word = word; corr = record { re = re; im = im }; theta = theta; amp = amp; slot = slot; nco_phase = nco })
 
@@ -100,9 +99,8 @@ period peak place sum locked offset parity stray missed =
       peak = peak;
       peak_pos = place;
       sum = sum;
-      locked = locked;
-      offset = offset;
-      ssync_parity = parity;
+      offset = (when locked then Some offset else None);
+      ssync_odd = eqb parity 1;
       stray_markers = stray;
       missed_markers = missed;
     })
@@ -140,9 +138,9 @@ word_number Ssync = pos 0
 word_number Fsync = pos 1
 word_number NotFsync = pos 2
 
-unfoldable pub slot_numbers : Slot → List ℤ → List ℤ
-slot_numbers Unknown rest = pos 0 ∷ pos 0 ∷ pos 0 ∷ rest
-slot_numbers (In number frame) rest = pos 1 ∷ pos number ∷ pos frame ∷ rest
+unfoldable pub slot_numbers : Option SlotNumber → List ℤ → List ℤ
+slot_numbers None rest = pos 0 ∷ pos 0 ∷ pos 0 ∷ rest
+slot_numbers (Some s) rest = pos 1 ∷ pos s.number ∷ pos s.frame ∷ rest
 
 unfoldable pub head_numbers : AHead → List ℤ
 head_numbers h =
@@ -161,9 +159,9 @@ period_numbers p =
     ∷ pos p.peak
     ∷ pos p.peak_pos
     ∷ pos p.sum
-    ∷ truth p.locked
-    ∷ pos p.offset
-    ∷ pos p.ssync_parity
+    ∷ truth (is_some p.offset)
+    ∷ pos (unwrap_or p.offset 0)
+    ∷ truth p.ssync_odd
     ∷ pos p.stray_markers
     ∷ pos p.missed_markers
     ∷ []
@@ -178,7 +176,7 @@ unfoldable pub events_numbers : Events → List ℤ
 events_numbers es = event_numbers es.first ++ event_numbers es.second ++ event_numbers es.third
 
 -- position, slot index, word, slot
-unfoldable pub place_numbers : ℕ → ℕ → Word → Slot → List ℤ → List ℤ
+unfoldable pub place_numbers : ℕ → ℕ → Word → Option SlotNumber → List ℤ → List ℤ
 place_numbers at j word slot rest = pos at ∷ pos j ∷ word_number word ∷ slot_numbers slot rest
 
 unfoldable pub symbol_numbers : Symbol → List ℤ → List ℤ

@@ -1,19 +1,16 @@
 -- Refused calls among accepted ones, at 9,296, with what document 01, "Refusals", says of each. The Rust refuses nothing.
-use Rattle.std.specs.Prelude.{ℕ, ◌+◌, ◌-◌, ◌^◌, Bool, true, false, List, [], ◌∷◌, ◌++◌, ℤ, pos, replicate}
+use Rattle.std.specs.Prelude.{ℕ, ◌+◌, ◌-◌, ◌^◌, Bool, true, false, List, [], ◌∷◌, ◌++◌, ℤ, pos, replicate, Option, None, Some, is_some}
 use Rattle.sync_lock.specs.declared.Lock.TheVariants.{Locked}
 use Rattle.sync_heads.specs.declared.Word.TheVariants.{Ssync, Fsync}
-use Rattle.sync_heads.specs.declared.Slot.TheVariants.{Unknown}
 use Rattle.sync_heads.specs.declared.Stage.TheVariants.{Known}
 use Rattle.sync_heads.specs.declared.Head.{Head}
-use Rattle.phase.specs.declared.SlotPhase.TheVariants.{Holds}
 use Rattle.frame_line.specs.declared.Meta.{Meta}
 use Rattle.frame_line.specs.declared.Metas.{Metas}
-use Rattle.frame_line.specs.declared.LastAt.{LastAt}
-use Rattle.frame_line.specs.declared.LastAt.TheVariants.{Never, At}
 use Rattle.frame_line.specs.Line.{no_metas}
+use Rattle.refusal.specs.Refusals.{state_after}
 use Rattle.receiver.specs.declared.Receiver.{Receiver}
 use Rattle.receiver.specs.Symbol.{Input, Lent, next_of, full}
-use Rattle.receiver.specs.Answers.{new_answer, symbol_answer, symbol_lent, points_answer, with_points, taps_answer, open_answer, end_answer, restart_answer, restart_acc}
+use Rattle.receiver.specs.Answers.{code_in, receiver_left, receiver_ended, sums_ended, new_answer, symbol_answer, symbol_lent, points_answer, with_points, taps_answer, open_answer, end_answer, restart_answer, restart_acc}
 
 -- ---- calls, as they are made
 pub data Try : Type 0 where
@@ -29,7 +26,7 @@ pub data Try : Type 0 where
   -- another state is handed in from now on
   hands : Receiver → Try
 
--- the number, whether sums were ended, and where the next symbol then stands
+-- the number, 0 for an accepted call, whether sums were ended, and where the next symbol then stands
 pub record Said : Type 0 where
   pub refusal : ℕ
   pub ended : Bool
@@ -43,16 +40,17 @@ with_acc l acc = record { acc = acc; store = l.store; soft = l.soft }
 
 unfoldable pub tried : Receiver → Lent → List Try → List Said
 tried r l [] = []
-tried r l (symbol x ∷ ts) = let a = symbol_answer r x l in said a.refusal false a.receiver ∷ tried a.receiver (symbol_lent r x l) ts
-tried r l (misfit x other ∷ ts) = let a = symbol_answer r x other in said a.refusal false a.receiver ∷ tried a.receiver l ts
-tried r l (points bits ps k ∷ ts) = let a = points_answer r bits ps k in said a.refusal false a.receiver ∷ tried a.receiver l ts
-tried r l (taps vs frame ∷ ts) = let a = taps_answer r vs frame in said a.refusal false a.receiver ∷ tried a.receiver l ts
-tried r l (opens frame ∷ ts) = let a = open_answer r frame in said a.refusal false a.receiver ∷ tried a.receiver l ts
-tried r l (ends ∷ ts) = let a = end_answer r in said a.refusal a.ended a.receiver ∷ tried a.receiver l ts
+tried r l (symbol x ∷ ts) = let a = symbol_answer r x l in let on = receiver_left a in said (code_in a) false on ∷ tried on (symbol_lent r x l) ts
+tried r l (misfit x other ∷ ts) = let a = symbol_answer r x other in let on = receiver_left a in said (code_in a) false on ∷ tried on l ts
+tried r l (points bits ps k ∷ ts) = let a = points_answer r bits ps k in let on = state_after a in said (code_in a) false on ∷ tried on l ts
+tried r l (taps vs frame ∷ ts) = let a = taps_answer r vs frame in let on = state_after a in said (code_in a) false on ∷ tried on l ts
+tried r l (opens frame ∷ ts) = let a = open_answer r frame in let on = state_after a in said (code_in a) false on ∷ tried on l ts
+tried r l (ends ∷ ts) = let a = end_answer r in let on = receiver_ended a in said (code_in a) (is_some (sums_ended a)) on ∷ tried on l ts
 tried r l (restarts at ∷ ts) =
     let a = restart_answer r at l.acc in
-    said a.refusal false a.receiver ∷ tried a.receiver (with_acc l (restart_acc r at l.acc)) ts
-tried r l (misrestarts at acc ∷ ts) = let a = restart_answer r at acc in said a.refusal false a.receiver ∷ tried a.receiver l ts
+    let on = state_after a in
+    said (code_in a) false on ∷ tried on (with_acc l (restart_acc r at l.acc)) ts
+tried r l (misrestarts at acc ∷ ts) = let a = restart_answer r at acc in let on = state_after a in said (code_in a) false on ∷ tried on l ts
 tried r l (hands other ∷ ts) = tried other l ts
 
 -- ---- what they are given
@@ -68,7 +66,7 @@ unfoldable pub good : Input
 good = input (pos 1) 1024
 
 unfoldable pub fresh : Receiver
-fresh = (new_answer (2 ^ 62 - 3) (pos 0) (stores 9296 0 0).acc).receiver
+fresh = state_after (new_answer (2 ^ 62 - 3) (pos 0) (stores 9296 0 0).acc)
 
 -- a width that no load takes
 unfoldable pub spoilt : Receiver
@@ -148,13 +146,13 @@ tries_said =
 
 -- ---- 8, at a slot of 64
 unfoldable pub held_head : Head
-held_head = record { at = 1005; word = Ssync; corr = record { re = pos 9; im = pos 0 }; theta = 0; amp = pos 9; slot = Unknown; nco_phase = 0 }
+held_head = record { at = 1005; word = Ssync; corr = record { re = pos 9; im = pos 0 }; theta = 0; amp = pos 9; slot = None; nco_phase = 0 }
 
 unfoldable pub waits : ℕ → Meta
-waits k = record { at = 1000 + k; j = 59 + k; word = Fsync; slot = Unknown }
+waits k = record { at = 1000 + k; j = 59 + k; word = Fsync; slot = None }
 
 -- locked at place 45 with a whole slot held, which the next symbol completes; sums of this count are open
-unfoldable pub brimming : Metas → LastAt → ℕ → ℕ → Receiver
+unfoldable pub brimming : Metas → Option ℕ → ℕ → ℕ → Receiver
 brimming waiting last filled count =
     record {
       front = record {
@@ -170,7 +168,7 @@ brimming waiting last filled count =
             course = fresh.front.sync.run.course;
           };
         };
-        phase = Holds (record { head = held_head; count = 64 });
+        phase = Some (record { head = held_head; count = 64 });
       };
       back = record {
         eq = record {
@@ -191,10 +189,10 @@ brimming waiting last filled count =
 unfoldable pub later : ℕ → Bool
 later count =
     let five : Metas = record { count = 5; first = waits 0; second = waits 1; third = waits 2; fourth = waits 3; fifth = waits 4 } in
-    full 64 (brimming five (At 1004) 11 count) good (stores 64 128 0)
+    full 64 (brimming five (Some 1004) 11 count) good (stores 64 128 0)
 
 unfoldable pub first : ℕ → Bool
-first count = full 64 (brimming no_metas Never 0 count) good (stores 64 128 0)
+first count = full 64 (brimming no_metas None 0 count) good (stores 64 128 0)
 
 -- 24 trainings, and 19, must fit below 4,194,304
 unfoldable pub counts : List Bool

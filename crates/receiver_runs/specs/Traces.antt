@@ -1,9 +1,9 @@
 -- Made by compare/traces.sh, not by hand: what the unchanged Rust stages, wired as document 01, "The receiver", says, tell in three short runs.
 -- Play.antt has the words; proofs/Runs.antt shows that the definitions tell the same.
-use Rattle.std.specs.Prelude.{true, false, List, [], ◌∷◌, ◌++◌, ℤ, pos, replicate}
+use Rattle.std.specs.Prelude.{true, false, List, [], ◌∷◌, ◌++◌, ℤ, pos, replicate, None}
 use Rattle.laws.specs.Choice.{minus}
 use Rattle.sync_heads.specs.declared.Word.TheVariants.{Ssync, Fsync, NotFsync}
-use Rattle.sync_heads.specs.declared.Slot.TheVariants.{Unknown, In}
+use Rattle.sync_heads.specs.Numbers.{slot_in}
 use Rattle.sync_step.specs.declared.Event.TheVariants.{Lost}
 use Rattle.receiver.specs.Answers.{no_runs}
 use Rattle.receiver_runs.specs.Play.{Kit, System, Call, Told, begun, signs, eights, repeated, head, period, one, two, three, run, both}
@@ -78,14 +78,14 @@ slots_told =
     ∷ told 214 (one (period 11101 10 163102 false 0 0 0 0)) no_runs [] 7969889126582687468
     ∷ told 278 (one (period 13821 10 205568 true 10 0 0 0)) no_runs [] 3227760806355110532
     ∷ told 342 (one (period 16265 10 242029 true 10 0 0 0)) no_runs [] 15297436142534516978
-    ∷ told 353 (two (head 1266 Ssync (pos 28961) (pos 8839) 202484862 (pos 30280) Unknown 0) (head 1330 Fsync (pos 29392) (pos 10068) 225583180 (pos 31069) Unknown 0)) no_runs [] 2379835279538877738
+    ∷ told 353 (two (head 1266 Ssync (pos 28961) (pos 8839) 202484862 (pos 30280) None 0) (head 1330 Fsync (pos 29392) (pos 10068) 225583180 (pos 31069) None 0)) no_runs [] 2379835279538877738
     ∷ told 406 (one (period 18535 10 279972 true 10 0 0 0)) no_runs [] 11706688908888401252
-    ∷ told 417 (one (head 1394 Ssync (pos 27384) (pos 13198) 306996048 (pos 30399) Unknown 0)) (both (run 0 0 0 0) (run 1330 0 59 2)) (pos 74 ∷ pos 43 ∷ minus 39 ∷ pos 80 ∷ minus 83 ∷ minus 46 ∷ pos 85 ∷ pos 85 ∷ pos 85 ∷ pos 85 ∷ pos 85 ∷ pos 85 ∷ pos 85 ∷ pos 85 ∷ pos 85 ∷ pos 85 ∷ pos 85 ∷ pos 85 ∷ pos 85 ∷ pos 85 ∷ []) 13265572591345719932
+    ∷ told 417 (one (head 1394 Ssync (pos 27384) (pos 13198) 306996048 (pos 30399) None 0)) (both (run 0 0 0 0) (run 1330 0 59 2)) (pos 74 ∷ pos 43 ∷ minus 39 ∷ pos 80 ∷ minus 83 ∷ minus 46 ∷ pos 85 ∷ pos 85 ∷ pos 85 ∷ pos 85 ∷ pos 85 ∷ pos 85 ∷ pos 85 ∷ pos 85 ∷ pos 85 ∷ pos 85 ∷ pos 85 ∷ pos 85 ∷ pos 85 ∷ pos 85 ∷ []) 13265572591345719932
     ∷ told 470 (one (period 20466 10 303276 true 10 0 0 0)) no_runs [] 14067611161841221312
-    ∷ told 481 (one (head 1458 NotFsync (pos 25936) (pos 16400) 385416610 (pos 30686) Unknown 0)) (both (run 1389 59 5 2) (run 1394 0 59 2)) (pos 46 ∷ minus 68 ∷ minus 78 ∷ minus 55 ∷ minus 51 ∷ pos 74 ∷ pos 70 ∷ pos 50 ∷ pos 51 ∷ minus 83 ∷ minus 72 ∷ pos 71 ∷ pos 74 ∷ minus 49 ∷ minus 61 ∷ pos 55 ∷ pos 85 ∷ pos 85 ∷ pos 85 ∷ pos 85 ∷ []) 11695178499266171834
+    ∷ told 481 (one (head 1458 NotFsync (pos 25936) (pos 16400) 385416610 (pos 30686) None 0)) (both (run 1389 59 5 2) (run 1394 0 59 2)) (pos 46 ∷ minus 68 ∷ minus 78 ∷ minus 55 ∷ minus 51 ∷ pos 74 ∷ pos 70 ∷ pos 50 ∷ pos 51 ∷ minus 83 ∷ minus 72 ∷ pos 71 ∷ pos 74 ∷ minus 49 ∷ minus 61 ∷ pos 55 ∷ pos 85 ∷ pos 85 ∷ pos 85 ∷ pos 85 ∷ []) 11695178499266171834
     ∷ summed true 7 43 5061985687071946903 13126054273335518000
     ∷ told 534 (one (period 22174 10 332439 true 10 0 0 0)) no_runs [] 1837814116556824967
-    ∷ told 545 (one (head 1522 Ssync (pos 26515) (pos 15395) 359592758 (pos 30660) Unknown 0)) (both (run 1453 59 5 2) (run 1458 0 59 2)) (minus 58 ∷ minus 71 ∷ pos 52 ∷ pos 70 ∷ pos 77 ∷ minus 54 ∷ minus 59 ∷ minus 70 ∷ minus 63 ∷ minus 60 ∷ pos 63 ∷ minus 72 ∷ pos 64 ∷ pos 66 ∷ minus 66 ∷ minus 51 ∷ pos 85 ∷ pos 85 ∷ pos 85 ∷ pos 85 ∷ []) 1406950880134393774
+    ∷ told 545 (one (head 1522 Ssync (pos 26515) (pos 15395) 359592758 (pos 30660) None 0)) (both (run 1453 59 5 2) (run 1458 0 59 2)) (minus 58 ∷ minus 71 ∷ pos 52 ∷ pos 70 ∷ pos 77 ∷ minus 54 ∷ minus 59 ∷ minus 70 ∷ minus 63 ∷ minus 60 ∷ pos 63 ∷ minus 72 ∷ pos 64 ∷ pos 66 ∷ minus 66 ∷ minus 51 ∷ pos 85 ∷ pos 85 ∷ pos 85 ∷ pos 85 ∷ []) 1406950880134393774
     ∷ summed true 8 24 8053094736481133022 14820981076835020152
     ∷ left 552 1552 2760000000 (pos 5000000) 2856007572511309662
     ∷ []
@@ -159,23 +159,23 @@ periods_told =
     ∷ told 94 (one (period 7617 23 40396 false 0 0 0 0)) no_runs [] 18219297830757577779
     ∷ told 118 (one (period 9560 23 52299 true 23 0 0 0)) no_runs [] 15496322072401077858
     ∷ told 142 (one (period 11192 23 61363 true 23 0 0 0)) no_runs [] 15809702189435772209
-    ∷ told 166 (three (head 119 Ssync (pos 22512) (pos 208) 6329614 (pos 22513) Unknown 0) (head 143 Fsync (pos 22992) (pos 208) 6204450 (pos 22993) Unknown 0) (period 12680 23 70378 true 23 0 0 0)) no_runs [] 9080039737172320281
-    ∷ told 190 (two (head 167 Ssync (pos 1088) (minus 5696) 3350224364 (pos 5799) Unknown 0) (period 12819 23 92553 true 23 0 0 0)) (both (run 0 0 0 0) (run 143 0 19 0)) [] 1427528206870512113
-    ∷ told 214 (two (head 191 Fsync (minus 256) (minus 3936) 3176817988 (pos 3944) Unknown 0) (period 12656 23 110560 true 23 0 0 0)) (both (run 162 19 5 0) (run 167 0 19 0)) [] 13042693492059794544
-    ∷ told 238 (two (head 215 Ssync (pos 176) (minus 3728) 3253492214 (pos 3732) Unknown 0) (period 14652 10 132114 true 23 0 0 0)) (both (run 186 19 5 0) (run 191 0 19 0)) [] 17046801927260859738
-    ∷ told 262 (two (head 239 Fsync (minus 80) (minus 3568) 3205895930 (pos 3569) Unknown 0) (period 18627 10 145447 true 23 0 0 0)) (both (run 210 19 5 0) (run 215 0 19 0)) [] 16154436213135167623
-    ∷ told 286 (two (head 263 Ssync (minus 96) (minus 3680) 3203392664 (pos 3681) Unknown 0) (period 22047 10 162674 true 23 0 0 0)) (both (run 234 19 5 0) (run 239 0 19 0)) [] 7805005617347879286
-    ∷ told 310 (two (head 287 Fsync (pos 224) (minus 3936) 3260084184 (pos 3942) Unknown 0) (period 25063 10 171840 true 23 0 0 0)) (both (run 258 19 5 0) (run 263 0 19 0)) [] 1905792354321662013
-    ∷ told 334 (two (head 311 Ssync (pos 48) (minus 3856) 3229724602 (pos 3856) Unknown 0) (period 27714 10 185735 true 23 0 0 0)) (both (run 282 19 5 0) (run 287 0 19 0)) [] 4888079813213803014
-    ∷ told 358 (two (head 335 Fsync (pos 48) (minus 3760) 3229933210 (pos 3760) Unknown 0) (period 29969 10 191841 true 23 0 0 0)) (both (run 306 19 5 0) (run 311 0 19 0)) [] 586172352272261099
-    ∷ told 382 (two (head 359 Ssync (minus 80) (minus 3696) 3206438308 (pos 3697) Unknown 0) (Lost 383)) (both (run 330 19 5 0) (run 335 0 19 0)) [] 4136841598018552695
+    ∷ told 166 (three (head 119 Ssync (pos 22512) (pos 208) 6329614 (pos 22513) None 0) (head 143 Fsync (pos 22992) (pos 208) 6204450 (pos 22993) None 0) (period 12680 23 70378 true 23 0 0 0)) no_runs [] 9080039737172320281
+    ∷ told 190 (two (head 167 Ssync (pos 1088) (minus 5696) 3350224364 (pos 5799) None 0) (period 12819 23 92553 true 23 0 0 0)) (both (run 0 0 0 0) (run 143 0 19 0)) [] 1427528206870512113
+    ∷ told 214 (two (head 191 Fsync (minus 256) (minus 3936) 3176817988 (pos 3944) None 0) (period 12656 23 110560 true 23 0 0 0)) (both (run 162 19 5 0) (run 167 0 19 0)) [] 13042693492059794544
+    ∷ told 238 (two (head 215 Ssync (pos 176) (minus 3728) 3253492214 (pos 3732) None 0) (period 14652 10 132114 true 23 0 0 0)) (both (run 186 19 5 0) (run 191 0 19 0)) [] 17046801927260859738
+    ∷ told 262 (two (head 239 Fsync (minus 80) (minus 3568) 3205895930 (pos 3569) None 0) (period 18627 10 145447 true 23 0 0 0)) (both (run 210 19 5 0) (run 215 0 19 0)) [] 16154436213135167623
+    ∷ told 286 (two (head 263 Ssync (minus 96) (minus 3680) 3203392664 (pos 3681) None 0) (period 22047 10 162674 true 23 0 0 0)) (both (run 234 19 5 0) (run 239 0 19 0)) [] 7805005617347879286
+    ∷ told 310 (two (head 287 Fsync (pos 224) (minus 3936) 3260084184 (pos 3942) None 0) (period 25063 10 171840 true 23 0 0 0)) (both (run 258 19 5 0) (run 263 0 19 0)) [] 1905792354321662013
+    ∷ told 334 (two (head 311 Ssync (pos 48) (minus 3856) 3229724602 (pos 3856) None 0) (period 27714 10 185735 true 23 0 0 0)) (both (run 282 19 5 0) (run 287 0 19 0)) [] 4888079813213803014
+    ∷ told 358 (two (head 335 Fsync (pos 48) (minus 3760) 3229933210 (pos 3760) None 0) (period 29969 10 191841 true 23 0 0 0)) (both (run 306 19 5 0) (run 311 0 19 0)) [] 586172352272261099
+    ∷ told 382 (two (head 359 Ssync (minus 80) (minus 3696) 3206438308 (pos 3697) None 0) (Lost 383)) (both (run 330 19 5 0) (run 335 0 19 0)) [] 4136841598018552695
     ∷ told 429 (one (period 5740 11 35184 false 0 0 0 0)) no_runs [] 2189168007495497248
     ∷ told 453 (one (period 10762 11 60290 false 0 0 0 0)) no_runs [] 1396069825605541259
     ∷ told 477 (one (period 15185 11 88162 false 0 0 0 0)) no_runs [] 3007450265059494637
     ∷ told 501 (one (period 19035 11 106675 true 11 0 0 0)) no_runs [] 8649900684927509959
     ∷ summed false 0 0 0 0
     ∷ told 525 (one (period 22420 11 128790 true 11 0 0 0)) no_runs [] 10390874204449267872
-    ∷ told 537 (one (head 514 Ssync (pos 46352) (minus 80) 4293769400 (pos 46352) Unknown 0)) no_runs [] 3796722279361179399
+    ∷ told 537 (one (head 514 Ssync (pos 46352) (minus 80) 4293769400 (pos 46352) None 0)) no_runs [] 3796722279361179399
     ∷ summed false 0 0 0 0
     ∷ told 590 (one (period 5785 18 29599 false 0 0 0 0)) no_runs [] 13171393865860762274
     ∷ left 592 5048 0 (pos 0) 12925088010128892257
@@ -217,35 +217,35 @@ markers_calls =
 unfoldable pub markers_told : List Told
 markers_told =
     summed true 1 24 17886435409179735566 6446607515601387784
-    ∷ told 781 (two (head 758 Ssync (pos 16) (minus 16) 3757960604 (pos 23) (In 115 1) 0) (period 17 2 17 true 2 0 0 1)) (both (run 750 1 3 0) (run 0 0 0 0)) [] 2367607148848785722
-    ∷ told 784 (two (head 761 Fsync (pos 4) (minus 4) 3757668552 (pos 6) (In 116 1) 0) (period 17 2 17 true 2 0 0 1)) (both (run 753 1 3 0) (run 0 0 0 0)) [] 12770148445485722481
-    ∷ told 787 (two (head 764 Ssync (pos 16) (minus 16) 3757960604 (pos 23) (In 117 1) 0) (period 17 2 17 true 2 0 0 1)) (both (run 756 1 3 0) (run 0 0 0 0)) [] 14593286766668448255
-    ∷ told 790 (two (head 767 Fsync (pos 4) (minus 4) 3757668552 (pos 6) (In 118 1) 0) (period 17 2 17 true 2 0 0 1)) (both (run 759 1 3 0) (run 0 0 0 0)) [] 16821710978661842516
-    ∷ told 793 (two (head 770 Ssync (pos 16) (minus 16) 3757960604 (pos 23) (In 119 1) 0) (period 17 2 17 true 2 0 0 1)) (both (run 762 1 3 0) (run 0 0 0 0)) [] 3210000136478813312
+    ∷ told 781 (two (head 758 Ssync (pos 16) (minus 16) 3757960604 (pos 23) (slot_in 115 1) 0) (period 17 2 17 true 2 0 0 1)) (both (run 750 1 3 0) (run 0 0 0 0)) [] 2367607148848785722
+    ∷ told 784 (two (head 761 Fsync (pos 4) (minus 4) 3757668552 (pos 6) (slot_in 116 1) 0) (period 17 2 17 true 2 0 0 1)) (both (run 753 1 3 0) (run 0 0 0 0)) [] 12770148445485722481
+    ∷ told 787 (two (head 764 Ssync (pos 16) (minus 16) 3757960604 (pos 23) (slot_in 117 1) 0) (period 17 2 17 true 2 0 0 1)) (both (run 756 1 3 0) (run 0 0 0 0)) [] 14593286766668448255
+    ∷ told 790 (two (head 767 Fsync (pos 4) (minus 4) 3757668552 (pos 6) (slot_in 118 1) 0) (period 17 2 17 true 2 0 0 1)) (both (run 759 1 3 0) (run 0 0 0 0)) [] 16821710978661842516
+    ∷ told 793 (two (head 770 Ssync (pos 16) (minus 16) 3757960604 (pos 23) (slot_in 119 1) 0) (period 17 2 17 true 2 0 0 1)) (both (run 762 1 3 0) (run 0 0 0 0)) [] 3210000136478813312
     ∷ told 796 (two (Lost 797) (period 0 0 0 false 0 0 0 0)) no_runs [] 12848922972176230706
     ∷ told 822 (one (period 3 0 3 false 0 0 0 0)) no_runs [] 6821252708044989661
     ∷ told 825 (one (period 5 0 5 false 0 0 0 0)) no_runs [] 6452387653872580846
     ∷ told 828 (one (period 6 0 6 false 0 0 0 0)) no_runs [] 17979042019660967586
     ∷ told 831 (one (period 7 0 7 true 0 0 0 0)) no_runs [] 658233738793198346
     ∷ told 834 (one (period 8 0 8 true 0 0 0 0)) no_runs [] 4487498673458257909
-    ∷ told 835 (two (head 809 Ssync (pos 11) (minus 11) 3757960604 (pos 16) Unknown 0) (head 812 Fsync (pos 9) (minus 9) 3757668552 (pos 13) Unknown 0)) no_runs [] 18053960302718120487
+    ∷ told 835 (two (head 809 Ssync (pos 11) (minus 11) 3757960604 (pos 16) None 0) (head 812 Fsync (pos 9) (minus 9) 3757668552 (pos 13) None 0)) no_runs [] 18053960302718120487
     ∷ told 837 (one (period 9 0 9 true 0 0 0 0)) no_runs [] 12072569943470383669
-    ∷ told 838 (one (head 815 Ssync (pos 11) (minus 11) 3757960604 (pos 16) Unknown 0)) no_runs [] 8858206885703521574
+    ∷ told 838 (one (head 815 Ssync (pos 11) (minus 11) 3757960604 (pos 16) None 0)) no_runs [] 8858206885703521574
     ∷ told 840 (one (period 9 0 9 true 0 0 0 0)) no_runs [] 4886620389953380628
-    ∷ told 841 (one (head 818 Fsync (pos 9) (minus 9) 3757668552 (pos 13) Unknown 0)) (both (run 812 0 1 0) (run 0 0 0 0)) [] 5123623669668130304
+    ∷ told 841 (one (head 818 Fsync (pos 9) (minus 9) 3757668552 (pos 13) None 0)) (both (run 812 0 1 0) (run 0 0 0 0)) [] 5123623669668130304
     ∷ told 843 (one (period 9 0 9 true 0 0 0 0)) no_runs [] 12267739398878379310
-    ∷ told 844 (one (head 821 Ssync (pos 11) (minus 11) 3757960604 (pos 16) Unknown 0)) (both (run 813 1 3 0) (run 0 0 0 0)) [] 16714378962793965573
+    ∷ told 844 (one (head 821 Ssync (pos 11) (minus 11) 3757960604 (pos 16) None 0)) (both (run 813 1 3 0) (run 0 0 0 0)) [] 16714378962793965573
     ∷ told 846 (one (period 9 0 9 true 0 0 0 0)) no_runs [] 7190313341865462739
-    ∷ told 847 (one (head 824 NotFsync (pos 1) (minus 1) 3757668552 (pos 1) (In 0 2) 0)) (both (run 816 1 3 0) (run 0 0 0 0)) [] 13184752134580231504
+    ∷ told 847 (one (head 824 NotFsync (pos 1) (minus 1) 3757668552 (pos 1) (slot_in 0 2) 0)) (both (run 816 1 3 0) (run 0 0 0 0)) [] 13184752134580231504
     ∷ told 849 (one (period 9 0 9 true 0 0 0 0)) no_runs [] 2450005060120811134
-    ∷ told 850 (one (head 827 Ssync (pos 16) (minus 16) 3757960604 (pos 23) (In 1 2) 0)) (both (run 819 1 3 0) (run 0 0 0 0)) [] 15388258745726667726
+    ∷ told 850 (one (head 827 Ssync (pos 16) (minus 16) 3757960604 (pos 23) (slot_in 1 2) 0)) (both (run 819 1 3 0) (run 0 0 0 0)) [] 15388258745726667726
     ∷ told 852 (one (period 10 0 10 true 0 0 0 0)) no_runs [] 8564620721248593983
-    ∷ told 853 (one (head 830 Fsync (pos 4) (minus 4) 3757668552 (pos 6) (In 2 2) 0)) (both (run 822 1 3 0) (run 0 0 0 0)) [] 2834130662755617098
+    ∷ told 853 (one (head 830 Fsync (pos 4) (minus 4) 3757668552 (pos 6) (slot_in 2 2) 0)) (both (run 822 1 3 0) (run 0 0 0 0)) [] 2834130662755617098
     ∷ told 855 (one (period 11 0 11 true 0 0 0 0)) no_runs [] 9284617699530514622
-    ∷ told 856 (one (head 833 Ssync (pos 16) (minus 16) 3757960604 (pos 23) (In 3 2) 0)) (both (run 825 1 3 0) (run 0 0 0 0)) [] 2966683376549240048
+    ∷ told 856 (one (head 833 Ssync (pos 16) (minus 16) 3757960604 (pos 23) (slot_in 3 2) 0)) (both (run 825 1 3 0) (run 0 0 0 0)) [] 2966683376549240048
     ∷ told 858 (one (period 12 0 12 true 0 0 0 0)) no_runs [] 1062452169354402983
-    ∷ told 859 (one (head 836 Fsync (pos 4) (minus 4) 3757668552 (pos 6) (In 4 2) 0)) (both (run 828 1 3 0) (run 0 0 0 0)) [] 15764010660808353983
+    ∷ told 859 (one (head 836 Fsync (pos 4) (minus 4) 3757668552 (pos 6) (slot_in 4 2) 0)) (both (run 828 1 3 0) (run 0 0 0 0)) [] 15764010660808353983
     ∷ told 861 (one (period 13 0 13 true 0 0 0 0)) no_runs [] 11486601321508125145
-    ∷ told 862 (one (head 839 Ssync (pos 16) (minus 16) 3757960604 (pos 23) (In 5 2) 0)) (both (run 831 1 3 0) (run 0 0 0 0)) [] 16538253646349765993
+    ∷ told 862 (one (head 839 Ssync (pos 16) (minus 16) 3757960604 (pos 23) (slot_in 5 2) 0)) (both (run 831 1 3 0) (run 0 0 0 0)) [] 16538253646349765993
     ∷ left 864 864 112306 (pos 241) 6410688561311329614
     ∷ []

@@ -1,14 +1,12 @@
 -- What a corrected slot comes out as: which symbols, told as which runs. Assumes nothing.
+use Rattle.std.specs.Prelude.{Option, None, Some}
 use Prim.Native.Nat.{ℕ, zero, suc, ◌+◌, ◌≤◌, ◌<◌}
 use Rattle.frame.proofs.Theorems.{aligned_theorem, gap_theorem, waiting_theorem}
 use Rattle.frame.specs.Align.{joined_to, pushed_back, restarted_back, started_back}
-use Rattle.frame.specs.declared.Aligned.{Aligned}
-use Rattle.frame.specs.declared.Aligned.TheVariants.{Nothing, Given}
 use Rattle.frame.specs.declared.AlignedSymbol.{AlignedSymbol}
 use Rattle.frame.specs.declared.Back.{Back}
 use Rattle.frame.specs.Stretch.{after_all, given_all, given_by, metas_of, unbroken}
 use Rattle.frame_line.proofs.Theorems.{waiting_length}
-use Rattle.frame_line.specs.declared.LastAt.TheVariants.{At}
 use Rattle.frame_line.specs.declared.Meta.{Meta}
 use Rattle.frame_line.specs.Line.{gap_at, meta_of, no_metas}
 use Rattle.frame_line.specs.Waiting.{waiting_of}
@@ -66,7 +64,7 @@ metas_firsts g (suc n) =
     ∙ sym (firsts_cons (λ (j : ℕ). meta_of (g j)) n)
 
 -- positions that count up have no gap
-runs_on : (g : ℕ → Corrected) (at n : ℕ) → ((j : ℕ) → (g j).at ≡ at + suc j) → unbroken (At at) (firsts g n) ≡ true
+runs_on : (g : ℕ → Corrected) (at n : ℕ) → ((j : ℕ) → (g j).at ≡ at + suc j) → unbroken (Some at) (firsts g n) ≡ true
 unfolding unbroken gap_at
 runs_on g at zero h = unfold firsts in refl
 runs_on g at (suc n) h =
@@ -79,10 +77,10 @@ unfolding metas_in
 metas_append [] ys = refl
 metas_append (x ∷ xs) ys = ap (λ (l : List Meta). x.meta ∷ l) (metas_append xs ys)
 
-given_by_lem : (a : Aligned) → metas_in (aligned_by a) ≡ given_by a
+given_by_lem : (a : Option AlignedSymbol) → metas_in (aligned_by a) ≡ given_by a
 unfolding metas_in aligned_by given_by
-given_by_lem Nothing = refl
-given_by_lem (Given a) = refl
+given_by_lem None = refl
+given_by_lem (Some a) = refl
 
 given_all_lem : (b : Back) (cs : List Corrected) (f s : List ℤ) → metas_in (aligned_all b cs f s) ≡ given_all b cs f s
 unfolding aligned_all given_all

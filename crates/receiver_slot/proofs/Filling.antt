@@ -1,4 +1,5 @@
 -- What one symbol of a slot makes of the alignment, where no gap is before it: who waits, how full the line is, whether it trains. Assumes nothing.
+use Rattle.std.specs.Prelude.{Some}
 use Prim.Native.Nat.{ℕ, suc, ◌+◌, ◌-◌, ◌%◌, ◌≤◌, ◌<◌, min}
 use mathlib.Core.Bool.{Bool, true, false, not, ◌&&◌}
 use mathlib.Core.List.{List, [], ◌∷◌}
@@ -13,11 +14,10 @@ use Rattle.laws.proofs.Tests.{and_both, by_test, if_either}
 use Rattle.phase.specs.declared.Corrected.{Corrected}
 use Rattle.eq.specs.declared.Equaliser.{Equaliser}
 use Rattle.eq.specs.Eq.{pushed_eq, trains_eq, trained_eq, with_sums}
-use Rattle.eq.proofs.Laws.{and_true}
+use Rattle.eq_train.proofs.Tested.{and_true}
 use Rattle.frame_map.specs.Map.{part_of}
 use Rattle.frame_map.proofs.Laws.{part_sync}
 use Rattle.frame_line.specs.declared.Meta.{Meta}
-use Rattle.frame_line.specs.declared.LastAt.TheVariants.{At}
 use Rattle.frame_line.specs.Line.{meta_of, placed_at, joined, moved, gap_at}
 use Rattle.frame.specs.declared.Back.{Back}
 use Rattle.frame.specs.Align.{is_sync, trained_part, trained_at, taken_by, pushed_back}
@@ -66,8 +66,8 @@ moved-place : (n c i : ℕ) (m : Meta) → (suc i < c → Place (n + 5 - c + suc
 moved-place n c i m q e l = place_is (n + 5 - c + suc i) (suc n + 5 - c + i) m (omega arith) (q (omega arith))
 
 -- ---- a symbol without a gap before it
-few_pushed : (b : Back) (c : Corrected) (f s : List ℤ) → gap_at b.last c.at ≡ false → b.metas.count < 5 →
-    (pushed_back b c f s).back ≡ record { eq = pushed_eq b.eq c.y.i c.y.q; metas = joined b.metas (meta_of c); last = At c.at }
+pub few_pushed : (b : Back) (c : Corrected) (f s : List ℤ) → gap_at b.last c.at ≡ false → b.metas.count < 5 →
+    (pushed_back b c f s).back ≡ record { eq = pushed_eq b.eq c.y.i c.y.q; metas = joined b.metas (meta_of c); last = Some c.at }
 unfolding pushed_back taken_by when◌then◌else◌
 few_pushed b c f s g l = rw (no_gap b c.at g, lt-ltb b.metas.count 5 l)
 
@@ -75,7 +75,7 @@ pub five_pushed : (b : Back) (c : Corrected) (f s : List ℤ) → gap_at b.last 
     (pushed_back b c f s).back ≡ record {
       eq = trained_at (pushed_eq b.eq c.y.i c.y.q) b.metas.first f s;
       metas = moved b.metas (meta_of c);
-      last = At c.at;
+      last = Some c.at;
     }
 unfolding pushed_back taken_by when◌then◌else◌
 five_pushed b c f s g l = rw (no_gap b c.at g, le-ltb b.metas.count 5 l)
@@ -156,11 +156,11 @@ count_step b c f s h g = omega (arith, count_theorem b (c ∷ []) f s h (rw g))
 abbrev pub From : ℕ → ℕ → Type 0
 From l lo = ((l ≡ 0) × (lo ≡ 10)) ⊎ ((l ≡ 11) × (lo ≡ 5))
 
-no_sync : (a p o l : Bool) → p ≡ false → (a && p && o && l) ≡ false
+pub no_sync : (a p o l : Bool) → p ≡ false → (a && p && o && l) ≡ false
 no_sync true p o l e = rw e
 no_sync false p o l e = refl
 
-no_line_lem : (a p o l : Bool) → l ≡ false → (a && p && o && l) ≡ false
+pub no_line_lem : (a p o l : Bool) → l ≡ false → (a && p && o && l) ≡ false
 no_line_lem true true true l e = e
 no_line_lem true true false l e = refl
 no_line_lem true false o l e = refl
@@ -187,7 +187,7 @@ trains_in at c l lo n b z p h u =
     enough (inl e) = (omega (arith, e.0, e.1), omega (arith, e.0, e.1))
     enough (inr e) = (omega (arith, e.0, e.1), omega (arith, e.0, e.1))
 
-not_sync : (j : ℕ) → 24 ≤ j → is_sync (part_of j) ≡ false
+pub not_sync : (j : ℕ) → 24 ≤ j → is_sync (part_of j) ≡ false
 not_sync j h = sync_places j ∙ le-ltb j 24 h
 
 -- none or five waited before

@@ -15,7 +15,7 @@ use Rattle.receiver_slot.specs.declared.Points.{Points}
 use Rattle.receiver_slot.specs.Slot.{soft_of}
 use Rattle.receiver_slot.specs.Steps.{line_on, soft_on}
 
-line_after_lem : (line : List ℤ) (i q : ℤ) → length line ≡ 22 → length (line_after line i q) ≡ 22
+pub line_after_lem : (line : List ℤ) (i q : ℤ) → length line ≡ 22 → length (line_after line i q) ≡ 22
 unfolding line_after
 line_after_lem line i q h = omega (arith, h, length-take 20 line)
 

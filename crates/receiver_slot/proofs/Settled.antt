@@ -1,4 +1,5 @@
 -- From the 30th symbol of a slot on nothing trains: each shifts the line and lets out the one five before it. Assumes nothing.
+use Rattle.std.specs.Prelude.{Some}
 use Prim.Native.Nat.{ℕ, zero, suc, ◌+◌, ◌-◌, ◌≤◌, ◌<◌, min}
 use mathlib.Core.Bool.{false}
 use mathlib.Core.List.{List, ◌∷◌, ◌++◌, append_assoc, append-nil}
@@ -20,10 +21,8 @@ use Rattle.eq_fir.proofs.Filter.{rows_output}
 use Rattle.eq.specs.declared.Equaliser.{Equaliser}
 use Rattle.eq.specs.Eq.{output_at, pushed_eq, started_eq}
 use Rattle.frame_map.specs.Map.{part_of}
-use Rattle.frame_line.specs.declared.LastAt.TheVariants.{At}
 use Rattle.frame_line.specs.declared.Metas.{Metas}
 use Rattle.frame_line.specs.Line.{gap_at, meta_of, moved, no_metas}
-use Rattle.frame.specs.declared.Aligned.TheVariants.{Given}
 use Rattle.frame.specs.declared.AlignedSymbol.{AlignedSymbol}
 use Rattle.frame.specs.declared.Back.{Back}
 use Rattle.frame.specs.Align.{equalised_by, joined_to, pushed_back, restarted_back, started_back, taken_by}
@@ -78,15 +77,15 @@ settles at c l n b h k p =
     record { five = five; full = omega (arith, p.filled, h); follows = p.follows; first = omega (arith, p.first (omega (arith, five)), five, h, k) }
 
 settled_back : (at n : ℕ) (b : Back) (c : Corrected) (f s : List ℤ) → 29 ≤ n → c.at ≡ at + n → Settled at n b →
-    (pushed_back b c f s).back ≡ record { eq = pushed_eq b.eq c.y.i c.y.q; metas = moved b.metas (meta_of c); last = At c.at }
+    (pushed_back b c f s).back ≡ record { eq = pushed_eq b.eq c.y.i c.y.q; metas = moved b.metas (meta_of c); last = Some c.at }
 settled_back at n b c f s h e p =
     let g : gap_at b.last c.at ≡ false = rw e p.follows in
     five_pushed b c f s g (omega (arith, p.five))
-    ∙ ap (λ (d : Equaliser). record { eq = d; metas = moved b.metas (meta_of c); last = At c.at })
+    ∙ ap (λ (d : Equaliser). record { eq = d; metas = moved b.metas (meta_of c); last = Some c.at })
     (untrained (pushed_eq b.eq c.y.i c.y.q) b.metas.first f s (omega (arith, p.first, h)))
 
 settled_out : (at n : ℕ) (b : Back) (c : Corrected) (f s : List ℤ) → 29 ≤ n → c.at ≡ at + n → Settled at n b →
-    (pushed_back b c f s).out ≡ Given (record { meta = b.metas.first; z = output_of b.eq.taps (line_after b.eq.line c.y.i c.y.q) })
+    (pushed_back b c f s).out ≡ Some (record { meta = b.metas.first; z = output_of b.eq.taps (line_after b.eq.line c.y.i c.y.q) })
 unfolding pushed_back taken_by equalised_by output_at pushed_eq when◌then◌else◌
 settled_out at n b c f s h e p =
     let g : gap_at b.last c.at ≡ false = rw e p.follows in
@@ -138,7 +137,7 @@ module _ (b : Back) (w : WholeSlot) (table store f s : List ℤ) (ok : BackOk b)
       (settles w.head.at from.metas.count from.eq.filled (suc n) (begun (suc n)) h k (fills (suc n) k))
 
   pub back_on : (n : ℕ) → 29 ≤ n → n < 9296 →
-      gone (suc n) ≡ record { eq = pushed_eq (gone n).eq (cs n).y.i (cs n).y.q; metas = moved (gone n).metas (meta_of (cs n)); last = At (cs n).at }
+      gone (suc n) ≡ record { eq = pushed_eq (gone n).eq (cs n).y.i (cs n).y.q; metas = moved (gone n).metas (meta_of (cs n)); last = Some (cs n).at }
   unfolding pushed_at
   back_on n h k =
       back_step b w table store f s n
@@ -199,8 +198,8 @@ module _ (b : Back) (w : WholeSlot) (table store f s : List ℤ) (ok : BackOk b)
       ∙ ap (λ (n : ℕ). record { count = n; first = meta_at w.head 9291; second = meta_at w.head 9292; third = meta_at w.head 9293; fourth = meta_at w.head 9294; fifth = meta_at w.head 9295 })
       (settled_at 9291 (lit≤ tt) (lit≤ tt)).five
 
-  last-is : (gone 9296).last ≡ At (w.head.at + 9295)
-  last-is = ap (λ (x : Back). x.last) (back_on 9295 (lit≤ tt) (lit≤ tt)) ∙ ap At (corrected_at w table store 9295)
+  last-is : (gone 9296).last ≡ Some (w.head.at + 9295)
+  last-is = ap (λ (x : Back). x.last) (back_on 9295 (lit≤ tt) (lit≤ tt)) ∙ ap Some (corrected_at w table store 9295)
 
   pub ended_is : gone 9296 ≡ ended_of (gone 29) (gone 9296).eq.line w.head
   unfolding ended_of

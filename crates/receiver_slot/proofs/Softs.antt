@@ -9,9 +9,11 @@ use Rattle.frame_line.specs.declared.Meta.{Meta}
 use Rattle.frame_line.specs.declared.Metas.{Metas}
 use Rattle.frame_line.specs.Line.{gap_at, meta_of, no_metas}
 use Rattle.frame_line.specs.Waiting.{waiting_of}
+use Rattle.refusal.specs.declared.Refusal.{Refusal}
+use Rattle.std.specs.Prelude.{Result, Ok, Err}
 use Rattle.frame_map.proofs.Laws.{main_run, part_behind, part_pilot, part_sync, tmcc_run}
 use Rattle.frame_map.specs.declared.SlotPart.{SlotPart}
-use Rattle.frame_map.specs.declared.SlotPart.TheVariants.{Sync, Pilot, Main, Tmcc, Refused}
+use Rattle.frame_map.specs.declared.SlotPart.TheVariants.{Sync, Pilot, Main, Tmcc}
 use Rattle.frame_map.specs.Map.{part_of}
 use Rattle.laws.proofs.Lists.{length-firsts}
 use Rattle.laws.proofs.Tests.{by_test, if_both}
@@ -33,12 +35,12 @@ use Rattle.receiver_slot.specs.Aligned.Between.{five, none}
 use Rattle.receiver_slot.proofs.Aligned.{aligned_are}
 
 -- ---- THE SOFT VALUES OF A SLOT fit the buffer: it has 8,976 main symbols, and of the five that wait the oldest is one
-one_main : SlotPart → ℕ
-one_main (Sync k) = 0
-one_main (Pilot k) = 0
-one_main (Main k) = 1
-one_main (Tmcc k) = 0
-one_main (Refused n) = 0
+one_main : Result SlotPart Refusal → ℕ
+one_main (Ok (Sync k)) = 0
+one_main (Ok (Pilot k)) = 0
+one_main (Ok (Main k)) = 1
+one_main (Ok (Tmcc k)) = 0
+one_main (Err n) = 0
 
 mains_in : List Meta → ℕ
 mains_in [] = 0
@@ -78,13 +80,13 @@ mains_to_lem g (suc n) e h =
       ap {B = ℕ} (λ (j : ℕ). one_main (part_of j)) (e n),
     )
 
-one_fits : (part : SlotPart) (q : Points) (z : Symbol) → q.bits ≤ 5 → length (soft_of part q z) ≤ 5 * one_main part
+one_fits : (part : Result SlotPart Refusal) (q : Points) (z : Symbol) → q.bits ≤ 5 → length (soft_of part q z) ≤ 5 * one_main part
 unfolding soft_of soft_bits one_main
-one_fits (Sync k) q z h = omega arith
-one_fits (Pilot k) q z h = omega arith
-one_fits (Main k) q z h = omega (arith, h, length-firsts (soft_at (label_metric z.i z.q q.points) q.bits (pos q.k)) q.bits)
-one_fits (Tmcc k) q z h = omega arith
-one_fits (Refused n) q z h = omega arith
+one_fits (Ok (Sync k)) q z h = omega arith
+one_fits (Ok (Pilot k)) q z h = omega arith
+one_fits (Ok (Main k)) q z h = omega (arith, h, length-firsts (soft_at (label_metric z.i z.q q.points) q.bits (pos q.k)) q.bits)
+one_fits (Ok (Tmcc k)) q z h = omega arith
+one_fits (Err n) q z h = omega arith
 
 all_fit : (p : Points) (given : List AlignedSymbol) → ((m : Meta) → (points_for p m).bits ≤ 5) → length (soft_all p given) ≤ 5 * mains_in (metas_in given)
 unfolding soft_all mains_in metas_in

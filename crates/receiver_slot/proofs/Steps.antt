@@ -1,4 +1,5 @@
 -- The alignment after n symbols of a slot, one step at a time. Assumes nothing.
+use Rattle.std.specs.Prelude.{Some}
 use Prim.Native.Nat.{ℕ, zero, suc, ◌+◌, ◌-◌, ◌≤◌, ◌<◌}
 use mathlib.Core.Bool.{Bool, true, false, ◌||◌}
 use mathlib.Core.List.{List, [], ◌∷◌, ◌++◌, append_assoc, append-nil}
@@ -14,10 +15,8 @@ use Rattle.laws.proofs.Tests.{if_both, neither}
 use Rattle.phase.specs.declared.Corrected.{Corrected}
 use Rattle.phase.specs.declared.WholeSlot.{WholeSlot}
 use Rattle.phase.specs.Phase.{corrected_of}
-use Rattle.frame_line.specs.declared.LastAt.TheVariants.{At}
 use Rattle.frame_map.specs.Map.{part_of}
 use Rattle.frame.specs.declared.Back.{Back}
-use Rattle.frame.specs.declared.Aligned.TheVariants.{Given}
 use Rattle.frame.specs.declared.AlignedSymbol.{AlignedSymbol}
 use Rattle.frame.specs.declared.Pushed.{Pushed}
 use Rattle.frame.specs.Align.{joined_to, taken_by, pushed_back}
@@ -42,7 +41,7 @@ aligned_snoc b (x ∷ xs) c f s =
     ap (λ (l : List AlignedSymbol). aligned_by p.out ++ l) (aligned_snoc p.back xs c f s)
     ∙ sym (append_assoc (aligned_by p.out) (aligned_all p.back xs f s) (aligned_by (pushed_back (after_all p.back xs f s) c f s).out))
 
-or_false : (t : Bool) → (t || false) ≡ t
+pub or_false : (t : Bool) → (t || false) ≡ t
 or_false true = refl
 or_false false = refl
 
@@ -59,7 +58,7 @@ over_snoc b (x ∷ xs) c f s =
     ap (λ (t : Bool). full_back (joined_to b x.at) || t) (over_snoc p xs c f s)
     ∙ or_assoc (full_back (joined_to b x.at)) (overfull p xs f s) (full_back (joined_to (after_all p xs f s) c.at))
 
-soft_append : (p : Points) (xs ys : List AlignedSymbol) → soft_all p (xs ++ ys) ≡ soft_all p xs ++ soft_all p ys
+pub soft_append : (p : Points) (xs ys : List AlignedSymbol) → soft_all p (xs ++ ys) ≡ soft_all p xs ++ soft_all p ys
 unfolding soft_all
 soft_append p [] ys = refl
 soft_append p (x ∷ xs) ys =
@@ -67,14 +66,14 @@ soft_append p (x ∷ xs) ys =
     ∙ sym (append_assoc (soft_of (part_of x.meta.j) (points_for p x.meta) x.z) (soft_all p xs) (soft_all p ys))
 
 -- the values of one that comes out
-pub soft_given : (p : Points) (a : AlignedSymbol) → soft_all p (aligned_by (Given a)) ≡ soft_of (part_of a.meta.j) p a.z
+pub soft_given : (p : Points) (a : AlignedSymbol) → soft_all p (aligned_by (Some a)) ≡ soft_of (part_of a.meta.j) p a.z
 unfolding soft_all aligned_by points_for
 soft_given p a = append-nil (soft_of (part_of a.meta.j) p a.z)
 
 -- a symbol's position is the last, gap or none
-pub pushed_last : (b : Back) (c : Corrected) (f s : List ℤ) → (pushed_back b c f s).back.last ≡ At c.at
+pub pushed_last : (b : Back) (c : Corrected) (f s : List ℤ) → (pushed_back b c f s).back.last ≡ Some c.at
 unfolding pushed_back taken_by
-pushed_last b c f s = if_both (λ (x : Pushed). x.back.last ≡ At c.at) _ _ _ refl refl
+pushed_last b c f s = if_both (λ (x : Pushed). x.back.last ≡ Some c.at) _ _ _ refl refl
 
 -- ---- after n symbols
 module _ (b : Back) (w : WholeSlot) (table store f s : List ℤ) where

@@ -1,21 +1,18 @@
 -- What a corrected slot gives: aligned symbols, trainings, soft bits.
-use Rattle.std.specs.Prelude.{ℕ, Bool, false, ◌||◌, List, [], ◌∷◌, ◌++◌, ℤ, pos, length, take, drop}
+use Rattle.std.specs.Prelude.{ℕ, Bool, false, ◌||◌, List, [], ◌∷◌, ◌++◌, ℤ, pos, length, take, drop, Option, None, Some, Result, Ok, Err}
 use Rattle.laws.specs.Ranges.{firsts}
 use Rattle.angles.specs.declared.Symbol.{Symbol}
 use Rattle.phase.specs.declared.WholeSlot.{WholeSlot}
-use Rattle.phase.specs.declared.Due.{Due}
-use Rattle.phase.specs.declared.Due.TheVariants.{Nothing as NoSlot, Slot}
 use Rattle.phase.specs.declared.Corrected.{Corrected}
 use Rattle.phase.specs.Phase.{corrected_of}
 use Rattle.demap.specs.Demap.{label_metric, soft_bits}
+use Rattle.refusal.specs.declared.Refusal.{Refusal}
 use Rattle.frame_map.specs.declared.SlotPart.{SlotPart}
-use Rattle.frame_map.specs.declared.SlotPart.TheVariants.{Sync, Pilot, Main, Tmcc, Refused}
+use Rattle.frame_map.specs.declared.SlotPart.TheVariants.{Sync, Pilot, Main, Tmcc}
 use Rattle.frame_map.specs.Map.{part_of}
 use Rattle.frame_line.specs.declared.Meta.{Meta}
 use Rattle.frame.specs.declared.Back.{Back}
 use Rattle.frame.specs.declared.AlignedSymbol.{AlignedSymbol}
-use Rattle.frame.specs.declared.Aligned.{Aligned}
-use Rattle.frame.specs.declared.Aligned.TheVariants.{Nothing, Given}
 use Rattle.frame.specs.Align.{joined_to, pushed_back}
 use Rattle.frame.specs.Answers.{full_back}
 use Rattle.receiver_slot.specs.declared.Points.{Points}
@@ -27,9 +24,9 @@ use Rattle.receiver_slot.specs.declared.Runs.{Runs}
 unfoldable pub corrected_all : ℕ → WholeSlot → List ℤ → List ℤ → List Corrected
 corrected_all n w table store = firsts (corrected_of w table store) n
 
-unfoldable pub aligned_by : Aligned → List AlignedSymbol
-aligned_by Nothing = []
-aligned_by (Given a) = a ∷ []
+unfoldable pub aligned_by : Option AlignedSymbol → List AlignedSymbol
+aligned_by None = []
+aligned_by (Some a) = a ∷ []
 
 unfoldable pub aligned_all : Back → List Corrected → List ℤ → List ℤ → List AlignedSymbol
 aligned_all b [] f s = []
@@ -45,21 +42,21 @@ overfull b [] f s = false
 overfull b (c ∷ cs) f s = full_back (joined_to b c.at) || overfull (pushed_back b c f s).back cs f s
 
 -- the corrected symbols of a call, none if no slot is completed
-unfoldable pub due_symbols : ℕ → Due → List ℤ → List ℤ → List Corrected
-due_symbols n NoSlot table store = []
-due_symbols n (Slot w) table store = corrected_all n w table store
+unfoldable pub due_symbols : ℕ → Option WholeSlot → List ℤ → List ℤ → List Corrected
+due_symbols n None table store = []
+due_symbols n (Some w) table store = corrected_all n w table store
 
 -- ---- "Main symbols are demapped with one loaded constellation; before a load there are no soft bits."
 -- the points that an aligned symbol is demapped with
 unfoldable pub points_for : Points → Meta → Points
 points_for p m = p
 
-unfoldable pub soft_of : SlotPart → Points → Symbol → List ℤ
-soft_of (Sync k) p z = []
-soft_of (Pilot k) p z = []
-soft_of (Main k) p z = soft_bits (label_metric z.i z.q p.points) p.bits (pos p.k)
-soft_of (Tmcc k) p z = []
-soft_of (Refused m) p z = []
+unfoldable pub soft_of : Result SlotPart Refusal → Points → Symbol → List ℤ
+soft_of (Ok (Sync k)) p z = []
+soft_of (Ok (Pilot k)) p z = []
+soft_of (Ok (Main k)) p z = soft_bits (label_metric z.i z.q p.points) p.bits (pos p.k)
+soft_of (Ok (Tmcc k)) p z = []
+soft_of (Err m) p z = []
 
 unfoldable pub soft_all : Points → List AlignedSymbol → List ℤ
 soft_all p [] = []

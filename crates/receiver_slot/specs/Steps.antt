@@ -1,5 +1,5 @@
 -- What the private functions promise: the alignment after n symbols of a slot, and places of the buffer.
-use Rattle.std.specs.Prelude.{ℕ, zero, suc, ◌+◌, ◌-◌, ◌*◌, ◌/◌, ◌%◌, ◌≤◌, ◌^◌, ◌≡◌, List, [], ◌∷◌, ◌++◌, eqb, ℤ, pos, length, take, drop}
+use Rattle.std.specs.Prelude.{ℕ, zero, suc, ◌+◌, ◌-◌, ◌*◌, ◌/◌, ◌%◌, ◌≤◌, ◌^◌, ◌≡◌, List, [], ◌∷◌, ◌++◌, eqb, ℤ, pos, length, take, drop, Some}
 use Rattle.laws.specs.Choice.{when◌then◌else◌}
 use Rattle.laws.specs.Ranges.{firsts}
 use Rattle.phase.specs.declared.WholeSlot.{WholeSlot}
@@ -9,7 +9,6 @@ use Rattle.eq_fir.specs.Fir.{line_after}
 use Rattle.eq_fir.specs.Rows.{Bytes, Ends, output_by}
 use Rattle.frame_map.specs.Map.{part_of}
 use Rattle.phase.specs.Ranges.{WholeOk}
-use Rattle.frame_line.specs.declared.LastAt.TheVariants.{At}
 use Rattle.frame_line.specs.declared.Meta.{Meta}
 use Rattle.frame_line.specs.declared.Metas.{Metas}
 use Rattle.frame.specs.declared.Back.{Back}
@@ -115,7 +114,7 @@ ended_of b line h =
         fourth = meta_at h 9294;
         fifth = meta_at h 9295;
       };
-      last = At (h.at + 9295);
+      last = Some (h.at + 9295);
     }
 
 -- what the rest of a slot needs

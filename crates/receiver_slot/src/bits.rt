@@ -8,7 +8,7 @@ ghost use Rattle.receiver_slot.specs.Steps.{put_at};
 
 use crate::Points;
 use angles::Symbol;
-use frame::{Aligned, AlignedSymbol};
+use frame::AlignedSymbol;
 use frame_map::SlotPart;
 
 // Two numbers for each of 2^bits points.
@@ -42,21 +42,21 @@ fn symbol(p: Points, a: AlignedSymbol, o: usize, soft: &mut [i8]) -> usize
     let m = a.meta;
     let z = a.z;
     match frame_map::part(m.j as usize) {
-        SlotPart::Sync(_) => o,
-        SlotPart::Pilot(_) => o,
-        SlotPart::Main(_) => main_symbol(p, z, o, soft),
-        SlotPart::Tmcc(_) => o,
-        SlotPart::Refused(_) => o,
+        Ok(SlotPart::Sync(_)) => o,
+        Ok(SlotPart::Pilot(_)) => o,
+        Ok(SlotPart::Main(_)) => main_symbol(p, z, o, soft),
+        Ok(SlotPart::Tmcc(_)) => o,
+        Err(_) => o,
     }
 }
 
-pub(crate) fn told(p: Points, out: Aligned, o: usize, soft: &mut [i8]) -> usize
+pub(crate) fn told(p: Points, out: Option<AlignedSymbol>, o: usize, soft: &mut [i8]) -> usize
     requires { (PointsOk p) × (o + length (soft_all p (aligned_by out)) ≤ length soft.old) }
     ensures { (result ≡ o + length (soft_all p (aligned_by out))) × (soft.new ≡ put_at o (soft_all p (aligned_by out)) soft.old) }
 {
     match out {
-        Aligned::Nothing => o,
-        Aligned::Given(a) => symbol(p, a, o, soft),
+        None => o,
+        Some(a) => symbol(p, a, o, soft),
     }
 }
 

@@ -14,10 +14,8 @@ fn opened(line: &[i16; 22]) -> [i16; 304]
     ensures { (result ≡ put_at 280 line.now (replicate 304 (pos 0))) × (length result ≡ 304) }
 {
     let mut l = [0i16; 304];
-    let mut k: usize = 0;
-    while k < 22 {
+    for k in 0..22 {
         l[280 + k] = line[k];
-        k += 1;
     }
     l
 }
@@ -27,15 +25,13 @@ fn ahead(l: &mut [i16; 304], w: WholeSlot, k: usize, n: usize, table: &[i16], st
     requires { (length l.old ≡ 304) × (WholeOk w) × (w.head.at + 9296 ≤ 2 ^ 62) × (29 + (k + n) ≤ 9296) × (n ≤ 140) × (length table.now ≡ 1024) × (length store.now ≡ 18592) }
     ensures { l.new ≡ take (280 - 2 * n) l.old ++ ahead_on k n (drop 280 l.old) w table.now store.now }
 {
-    let mut t: usize = 0;
-    while t < n {
+    for t in 0..n {
         let c = phase::ranged::corrected(w, 29 + (k + t), table, store);
         let y = c.y;
         let i = y.i;
         let q = y.q;
         l[278 - 2 * t] = i;
         l[279 - 2 * t] = q;
-        t += 1;
     }
 }
 
@@ -44,10 +40,8 @@ fn closed(line: &mut [i16; 22], l: &[i16; 304], e: usize)
     requires { (length line.old ≡ 22) × (length l.now ≡ 304) × (e ≤ 280) }
     ensures { line.new ≡ take 22 (drop e l.now) }
 {
-    let mut k: usize = 0;
-    while k < 22 {
+    for k in 0..22 {
         line[k] = l[e + k];
-        k += 1;
     }
 }
 

@@ -15,7 +15,7 @@ ghost use Rattle.receiver_slot.specs.Steps.{back_at, soft_to, line_on, soft_on, 
 use crate::{AlignedRun, Begun, Given, Points, Runs, bits, groups};
 use eq::Equaliser;
 use frame::{Back, Pushed};
-use frame_line::{LastAt, Meta, Metas};
+use frame_line::{Meta, Metas};
 use phase::WholeSlot;
 use sync_heads::Head;
 
@@ -52,13 +52,11 @@ fn first(
 {
     let mut back = b;
     let mut o: usize = 0;
-    let mut j: usize = 0;
-    while j < 29 {
+    for j in 0..29 {
         let q = pushed(back, w, j, table, store, f, s);
         let out = q.out;
         o = bits::told(p, out, o, soft);
         back = q.back;
-        j += 1;
     }
     Begun {
         back: back,
@@ -83,8 +81,7 @@ fn rest(
 {
     let mut z = [0i16; 272];
     let mut o = place;
-    let mut g: usize = 0;
-    while g < 66 {
+    for g in 0..66 {
         let s = groups::stretch(g);
         o = groups::group(
             line,
@@ -100,7 +97,6 @@ fn rest(
             store,
             soft,
         );
-        g += 1;
     }
     groups::group(
         line,
@@ -158,7 +154,7 @@ fn ended(b: Back, line: [i16; 22], h: Head) -> Back
             fourth: meta(h, 9294),
             fifth: meta(h, 9295),
         },
-        last: LastAt::At(h.at + 9295),
+        last: Some(h.at + 9295),
     }
 }
 

@@ -1,12 +1,11 @@
 -- A receiver with a part replaced.
-use Rattle.std.specs.Prelude.{ℕ, eqb, leb}
+use Rattle.phase.specs.declared.Held.{Held}
+use Rattle.std.specs.Prelude.{ℕ, eqb, leb, Option}
 use Rattle.laws.specs.Choice.{when◌then◌else◌}
 use Rattle.carrier.specs.declared.Nco.{Nco}
 use Rattle.sync.specs.declared.SlotSync.{SlotSync}
-use Rattle.phase.specs.declared.SlotPhase.{SlotPhase}
 use Rattle.frame_line.specs.declared.Meta.{Meta}
 use Rattle.frame_line.specs.declared.Metas.{Metas}
-use Rattle.frame_line.specs.declared.LastAt.{LastAt}
 use Rattle.receiver_slot.specs.declared.Points.{Points}
 use Rattle.receiver.specs.declared.Front.{Front}
 use Rattle.receiver.specs.declared.Receiver.{Receiver}
@@ -20,10 +19,10 @@ with_nco r n = with_front r (record { nco = n; sync = r.front.sync; phase = r.fr
 abbrev pub with_sync : Receiver → SlotSync → Receiver
 with_sync r y = with_front r (record { nco = r.front.nco; sync = y; phase = r.front.phase })
 
-abbrev pub with_phase : Receiver → SlotPhase → Receiver
+abbrev pub with_phase : Receiver → Option Held → Receiver
 with_phase r s = with_front r (record { nco = r.front.nco; sync = r.front.sync; phase = s })
 
-abbrev pub with_line : Receiver → Metas → LastAt → Receiver
+abbrev pub with_line : Receiver → Metas → Option ℕ → Receiver
 with_line r w last = record { front = r.front; back = record { eq = r.back.eq; metas = w; last = last }; points = r.points }
 
 abbrev pub with_points : Receiver → Points → Receiver

@@ -6,6 +6,7 @@ use crate::with;
 use receiver::Receiver;
 use receiver_slot::Points;
 use sync::SlotSync;
+use wire::Field;
 
 fn carrier(r: Receiver, p: &[u64; 24]) -> Receiver
     ensures { result ≡ carrier_put r p.now }
@@ -72,10 +73,8 @@ fn points_at(bytes: &[u8; 192]) -> [i16; 64]
     ensures { result ≡ points_of bytes.now }
 {
     let mut t = no_points();
-    let mut k: usize = 0;
-    while k < 64 {
+    for k in 0..64 {
         t[k] = fields::ranged::pair_at(bytes, 32 + 2 * k);
-        k += 1;
     }
     t
 }
@@ -89,9 +88,9 @@ fn points(r: Receiver, p: &[u64; 24]) -> Receiver
     with::points(
         r,
         Points {
-            bits: wire::low8(p[1]),
+            bits: u8::of_bits(p[1]),
             points: t,
-            k: wire::low32(p[2]),
+            k: u32::of_bits(p[2]),
         },
     )
 }

@@ -10,7 +10,7 @@ fn window(r: Receiver) -> [u64; 24]
 {
     let y = r.front.sync;
     let win = y.win;
-    fields::four(0, digest::of_i16(&win), 0, 0)
+    fields::four(0, digest::of(&win), 0, 0)
 }
 
 // One of the five that wait.
@@ -71,7 +71,7 @@ fn points(r: Receiver) -> [u64; 24]
 {
     let q = r.points;
     let t = q.points;
-    fields::four(0, q.bits as u64, q.k as u64, digest::of_i16(&t))
+    fields::four(0, q.bits as u64, q.k as u64, digest::of(&t))
 }
 
 // 255 is no refusal of document 01.

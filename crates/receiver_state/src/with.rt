@@ -5,8 +5,8 @@ ghost use Rattle.laws.specs.Choice.{when◌then◌else◌};
 
 use carrier::Nco;
 use frame::Back;
-use frame_line::{LastAt, Meta, Metas};
-use phase::SlotPhase;
+use frame_line::{Meta, Metas};
+use phase::Held;
 use receiver::{Front, Receiver};
 use receiver_slot::Points;
 use sync::SlotSync;
@@ -55,7 +55,7 @@ pub(crate) fn sync(r: Receiver, y: SlotSync) -> Receiver
     )
 }
 
-pub(crate) fn phase(r: Receiver, s: SlotPhase) -> Receiver
+pub(crate) fn phase(r: Receiver, s: Option<Held>) -> Receiver
     ensures { result ≡ with_phase r s }
 {
     let a = r.front;
@@ -72,7 +72,7 @@ pub(crate) fn phase(r: Receiver, s: SlotPhase) -> Receiver
 }
 
 // Others that wait, another last position.
-pub(crate) fn line(r: Receiver, w: Metas, last: LastAt) -> Receiver
+pub(crate) fn line(r: Receiver, w: Metas, last: Option<u64>) -> Receiver
     ensures { result ≡ with_line r w last }
 {
     let a = r.front;

@@ -1,4 +1,8 @@
 -- The heads that a step tells: each of a size that the slot phase takes, and at most one, the first, an Ssync head. Assumes nothing.
+use Rattle.sync_heads.specs.declared.FrameHead.{FrameHead}
+use Rattle.sync_heads.specs.declared.SlotNumber.{SlotNumber}
+use Rattle.std.specs.Prelude.{Option, None, Some}
+use Rattle.sync_heads.specs.declared.Head.{Head}
 use Prim.Native.Nat.{ℕ, ◌≤◌, ◌^◌}
 use mathlib.Core.Bool.{Bool, true, false}
 use mathlib.Core.Path.{refl, subst, sym}
@@ -12,12 +16,8 @@ use Rattle.fx.proofs.Theorems.{cordic_theorem}
 use Rattle.sync_corr.specs.declared.Both.{Both}
 use Rattle.sync_corr.specs.declared.Corr.{Corr}
 use Rattle.sync_heads.specs.declared.Course.{Course}
-use Rattle.sync_heads.specs.declared.Headed.{Headed}
-use Rattle.sync_heads.specs.declared.Headed.TheVariants.{Nothing as NoHead, One as OneHead}
 use Rattle.sync_heads.specs.declared.Reading.{Reading}
-use Rattle.sync_heads.specs.declared.Record.{Record}
 use Rattle.sync_heads.specs.declared.Said.{Said}
-use Rattle.sync_heads.specs.declared.Slot.{Slot}
 use Rattle.sync_heads.specs.declared.Stage.{Stage}
 use Rattle.sync_heads.specs.declared.Stage.TheVariants.{Before, First, Known}
 use Rattle.sync_heads.specs.declared.Taken.{Taken}
@@ -43,7 +43,7 @@ use Rattle.receiver_symbol.specs.Parts.{EventOk, EventsOk, LaterOk, Quiet}
 amp_small : (re im : ℤ) → nat_abs re ≤ 1572864 → nat_abs im ≤ 1572864 → nat_abs (cordic_of re im).size ≤ 2 ^ 60
 amp_small re im hr hi = let s = cordic_theorem re im 1572864 hr hi in rw s.is (omega (arith, s.most))
 
-head_ok : (w : Said) (at : ℕ) (slot : Slot) → Small w.corr → HeadOk (head_of w at slot)
+head_ok : (w : Said) (at : ℕ) (slot : Option SlotNumber) → Small w.corr → HeadOk (head_of w at slot)
 unfolding head_of
 head_ok w at slot h = record { amp = amp_small w.corr.re w.corr.im h.re h.im }
 
@@ -54,21 +54,21 @@ said-quiet b last =
     (if_both (λ (w : Said). Quiet w.word) (lt_z (side_of b.f last) (pos 0)) (record { word = NotFsync; corr = negated b.f }) (record { word = Fsync; corr = b.f }) tt tt)
 
 -- ---- the heads of a reading
-abbrev FirstHead : Headed → Type 0
-FirstHead NoHead = Unit {0}
-FirstHead (OneHead h) = HeadOk h
+abbrev FirstHead : Option Head → Type 0
+FirstHead None = Unit {0}
+FirstHead (Some h) = HeadOk h
 
-abbrev LaterHead : Headed → Type 0
-LaterHead NoHead = Unit {0}
-LaterHead (OneHead h) = (HeadOk h) × (Quiet h.word)
+abbrev LaterHead : Option Head → Type 0
+LaterHead None = Unit {0}
+LaterHead (Some h) = (HeadOk h) × (Quiet h.word)
 
 record TakenOk (k : Taken) : Type 0 where
   first : FirstHead k.first
   second : LaterHead k.second
 
-sooner : (h : Headed) → LaterHead h → FirstHead h
-sooner NoHead o = tt
-sooner (OneHead h) o = o.0
+sooner : (h : Option Head) → LaterHead h → FirstHead h
+sooner None o = tt
+sooner (Some h) o = o.0
 
 ssync_ok : (c : Course) (r : Reading) → Smalls r.both → FirstHead (ssync_of c r).head
 unfolding ssync_of
@@ -102,15 +102,15 @@ unfolding taken_of reading_of
 taken_ok n r p b o h = if_both TakenOk _ _ _ (read_taken n r.stage r.course (reading_of r b) o.stage h) (record { first = tt; second = tt })
 
 -- ---- the events of a step
-first_event : (h : Headed) → FirstHead h → EventOk (event_of h)
+first_event : (h : Option Head) → FirstHead h → EventOk (event_of h)
 unfolding event_of
-first_event NoHead o = tt
-first_event (OneHead h) o = o
+first_event None o = tt
+first_event (Some h) o = o
 
-later_event : (h : Headed) → LaterHead h → LaterOk (event_of h)
+later_event : (h : Option Head) → LaterHead h → LaterOk (event_of h)
 unfolding event_of
-later_event NoHead o = tt
-later_event (OneHead h) o = o
+later_event None o = tt
+later_event (Some h) o = o
 
 heads_ok : (k : Taken) → TakenOk k → EventsOk (heads_of k)
 unfolding heads_of
@@ -125,11 +125,11 @@ then_ok es e f l o =
 abbrev Tells : Step → Type 0
 Tells s = EventsOk s.events
 
-lost_ok : (at : ℕ) (last : Record) (es : Events) → EventsOk es → Tells (lost_of at last es)
+lost_ok : (at : ℕ) (last : Option FrameHead) (es : Events) → EventsOk es → Tells (lost_of at last es)
 unfolding lost_of
 lost_ok at last es o = then_ok es (Lost at) tt tt o
 
-end_ok : (at : ℕ) (last : Record) (es : Events) → EventsOk es → Tells (lost_at_end at last es)
+end_ok : (at : ℕ) (last : Option FrameHead) (es : Events) → EventsOk es → Tells (lost_at_end at last es)
 unfolding lost_at_end
 end_ok at last es o = then_ok _ (Period _) tt tt (lost_ok at last es o)
 

@@ -1,4 +1,7 @@
 -- What each event of a call needs, one after another, and the slot that they complete. Assumes nothing.
+use Rattle.std.specs.Prelude.{Option, None, Some}
+use Rattle.phase.specs.declared.Held.{Held}
+use Rattle.phase.specs.declared.WholeSlot.{WholeSlot}
 use Prim.Native.Nat.{ℕ}
 use Rattle.laws.proofs.Tests.{if_both}
 use Rattle.sync_heads.specs.declared.Head.{Head as Told}
@@ -9,10 +12,6 @@ use Rattle.sync_step.specs.declared.Event.TheVariants.{Nothing, Head, Period, Lo
 use Rattle.sync_step.specs.declared.Events.{Events}
 use Rattle.carrier.specs.declared.Nco.{Nco}
 use Rattle.carrier.specs.Ranges.{NcoOk}
-use Rattle.phase.specs.declared.Due.{Due}
-use Rattle.phase.specs.declared.Due.TheVariants.{Nothing as NoSlot, Slot}
-use Rattle.phase.specs.declared.SlotPhase.{SlotPhase}
-use Rattle.phase.specs.declared.SlotPhase.TheVariants.{Idle, Holds}
 use Rattle.phase.specs.Phase.{begun_of, due_in, whole_of}
 use Rattle.phase.specs.Ranges.{HeadOk, PhaseOk}
 use Rattle.phase.proofs.Laws.{whole_ok}
@@ -58,15 +57,15 @@ later_phase k l (Period x) p o = p
 later_phase k l (Lost at) p o = p
 
 -- ---- the slot that a call completes is one between two such heads
-due_in_lem : (k : ℕ) (s : SlotPhase) (h : Told) → PhaseOk s → HeadOk h → DueOk (due_in k s h)
+due_in_lem : (k : ℕ) (s : Option Held) (h : Told) → PhaseOk s → HeadOk h → DueOk (due_in k s h)
 unfolding due_in
-due_in_lem k Idle h p o = tt
-due_in_lem k (Holds x) h p o = if_both DueOk _ (Slot (whole_of x.head h)) NoSlot (whole_ok (whole_of x.head h) (whole_in_range_lem x.head h p o)) tt
+due_in_lem k None h p o = tt
+due_in_lem k (Some x) h p o = if_both DueOk _ (Some (whole_of x.head h)) None (whole_ok (whole_of x.head h) (whole_in_range_lem x.head h p o)) tt
 
-or_due_lem : (a b : Due) → DueOk a → DueOk b → DueOk (or_due a b)
+or_due_lem : (a b : Option WholeSlot) → DueOk a → DueOk b → DueOk (or_due a b)
 unfolding or_due
-or_due_lem NoSlot b p q = q
-or_due_lem (Slot w) b p q = p
+or_due_lem None b p q = q
+or_due_lem (Some w) b p q = p
 
 heard_due : (k : ℕ) (l : Listened) (e : Event) → PhaseOk l.phase → DueOk l.due → EventOk e → DueOk (event_heard k l e).due
 unfolding event_heard

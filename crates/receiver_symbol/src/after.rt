@@ -6,12 +6,12 @@ ghost use Rattle.receiver_symbol.specs.Parts.{left_by, phase_by, stored_by, afte
 
 use crate::{Ahead, heads};
 use frame::Back;
-use phase::SlotPhase;
+use phase::Held;
 use receiver::{Answer, Front, Receiver};
 use receiver_slot::Runs;
 use sync::SlotSync;
 
-fn left(r: Receiver, a: Ahead, b: Back, p: SlotPhase) -> Receiver
+fn left(r: Receiver, a: Ahead, b: Back, p: Option<Held>) -> Receiver
     ensures { result ≡ left_by r a b p }
 {
     let st = a.step;
@@ -36,7 +36,7 @@ fn left(r: Receiver, a: Ahead, b: Back, p: SlotPhase) -> Receiver
 }
 
 // The symbol 23 back goes to the slot phase, once 24 have come.
-fn phased(t: u64, p: SlotPhase, i: i16, q: i16, store: &mut [i16]) -> SlotPhase
+fn phased(t: u64, p: Option<Held>, i: i16, q: i16, store: &mut [i16]) -> Option<Held>
     requires { length store.old ≡ 18592 }
     ensures { (result ≡ phase_by t p) × (store.new ≡ stored_by t p i q store.old) }
 {
@@ -82,11 +82,9 @@ pub(crate) fn taken(
     let k = st.stores;
     let es = st.events;
     sync::ranged::store(k, p, acc);
-    let n = after(r, a, b, store);
     Answer {
-        refusal: 0,
-        receiver: n,
+        receiver: after(r, a, b, store),
         events: es,
-        runs: runs,
+        runs,
     }
 }

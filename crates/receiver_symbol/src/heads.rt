@@ -8,17 +8,17 @@ ghost use Rattle.receiver.specs.Heads.{or_due, event_heard, listened, is_lost, l
 ghost use Rattle.receiver_symbol.specs.Parts.{TuneOk, HeadHeard, HearOk, EventsOk, DueOk};
 
 use carrier::Nco;
-use phase::Due;
+use phase::WholeSlot;
 use receiver::Listened;
 use sync_heads::{Head, Word};
 use sync_step::{Event, Events};
 
-fn or_due(a: Due, b: Due) -> Due
+fn or_due(a: Option<WholeSlot>, b: Option<WholeSlot>) -> Option<WholeSlot>
     ensures { result ≡ or_due a b }
 {
     match a {
-        Due::Nothing => b,
-        Due::Slot(w) => Due::Slot(w),
+        None => b,
+        Some(w) => Some(w),
     }
 }
 

@@ -5,13 +5,14 @@ mod after;
 mod heads;
 mod looks;
 pub mod ranged;
-mod refusals;
+pub mod refusals;
 mod slots;
 
 ghost use Rattle.std.specs.Prelude.{◌≡◌};
 ghost use Rattle.receiver.specs.Answers.{symbol_answer, symbol_lent};
 
 use receiver::{Answer, Listened, Receiver};
+use refusal::Refused;
 use sync_step::Step;
 
 // What a symbol comes to before anything is written: its window, the step of the slot sync, and what carrier and slot phase hear.
@@ -33,13 +34,11 @@ pub fn symbol(
     acc: &mut [u32],
     store: &mut [i16],
     soft: &mut [i8],
-) -> Answer
+) -> Result<Answer, Refused<Receiver>>
     ensures { (result ≡ symbol_answer r (record { xi = xi; xq = xq; f = f; s = s; table = table.now }) (record { acc = acc.old; store = store.old; soft = soft.old })) × (acc.new ≡ (symbol_lent r (record { xi = xi; xq = xq; f = f; s = s; table = table.now }) (record { acc = acc.old; store = store.old; soft = soft.old })).acc) × (store.new ≡ (symbol_lent r (record { xi = xi; xq = xq; f = f; s = s; table = table.now }) (record { acc = acc.old; store = store.old; soft = soft.old })).store) × (soft.new ≡ (symbol_lent r (record { xi = xi; xq = xq; f = f; s = s; table = table.now }) (record { acc = acc.old; store = store.old; soft = soft.old })).soft) }
 {
-    let n = refusals::soon(r, acc.len(), store.len(), soft.len(), &f, &s, table.len());
-    if n == 0 {
-        ranged::known(r, xi, xq, &f, &s, table, acc, store, soft)
-    } else {
-        refusals::refused(n, r)
+    match refusals::soon(r, acc.len(), store.len(), soft.len(), &f, &s, table.len()) {
+        Ok(()) => ranged::known(r, xi, xq, &f, &s, table, acc, store, soft),
+        Err(why) => Err(Refused { why, state: r }),
     }
 }

@@ -6,7 +6,6 @@ ghost use Rattle.sync_step.specs.Step.{step_of};
 ghost use Rattle.receiver_symbol.specs.Parts.{window_by, ahead_by, AheadOk, EventsOk, DueOk};
 
 use crate::{Ahead, heads};
-use phase::Due;
 use receiver::{Front, Listened, Receiver};
 use sync_step::{Run, Step};
 
@@ -54,7 +53,7 @@ pub(crate) fn look(
     let before = Listened {
         nco: carrier::plain::advanced(n),
         phase: p,
-        due: Due::Nothing,
+        due: None,
     };
     Ahead {
         win: win,

@@ -5,6 +5,7 @@ ghost use Rattle.receiver_symbol.specs.Parts.{Soon};
 
 use crate::{looks, slots};
 use receiver::{Answer, Receiver};
+use refusal::Refused;
 
 pub fn known(
     r: Receiver,
@@ -16,7 +17,7 @@ pub fn known(
     acc: &mut [u32],
     store: &mut [i16],
     soft: &mut [i8],
-) -> Answer
+) -> Result<Answer, Refused<Receiver>>
     requires { Soon r (length acc.old) (length store.old) (length soft.old) f.now s.now (length table.now) }
     ensures { (result ≡ symbol_answer r (record { xi = xi; xq = xq; f = f.now; s = s.now; table = table.now }) (record { acc = acc.old; store = store.old; soft = soft.old })) × (acc.new ≡ (symbol_lent r (record { xi = xi; xq = xq; f = f.now; s = s.now; table = table.now }) (record { acc = acc.old; store = store.old; soft = soft.old })).acc) × (store.new ≡ (symbol_lent r (record { xi = xi; xq = xq; f = f.now; s = s.now; table = table.now }) (record { acc = acc.old; store = store.old; soft = soft.old })).store) × (soft.new ≡ (symbol_lent r (record { xi = xi; xq = xq; f = f.now; s = s.now; table = table.now }) (record { acc = acc.old; store = store.old; soft = soft.old })).soft) }
 {

@@ -1,20 +1,50 @@
-// 0, or why a symbol is refused, as far as that is known without its slot: in the order of document 01's table.
+// Why a symbol is refused, as far as that is known without its slot: in the order of document 01's table. A feed makes the same tests.
 ghost use Rattle.std.specs.Prelude.{◌≡◌};
-ghost use Rattle.receiver_symbol.specs.Parts.{state_refusal, soon_refusal, refused_by};
+ghost use Rattle.receiver_symbol.specs.Parts.{lent_refusal, next_refusal, state_refusal, soon_refusal};
 
-use receiver::{Answer, Receiver};
+use receiver::Receiver;
+use refusal::Refusal;
+
+// What is lent.
+pub fn lent(
+    acc: usize,
+    store: usize,
+    soft: usize,
+    f: &[i8; 48],
+    s: &[i8; 48],
+    table: usize,
+) -> Result<(), Refusal>
+    ensures { result ≡ lent_refusal acc store soft f.now s.now table }
+{
+    if !((acc == 9296) & (store == 18592) & (44880 <= soft)) {
+        return Err(Refusal::Stores);
+    }
+    if !(sync_corr::plain::ones(f) & sync_corr::plain::ones(s)) {
+        return Err(Refusal::Words);
+    }
+    if table != 1024 {
+        return Err(Refusal::Table);
+    }
+    Ok(())
+}
+
+// The next symbol's position.
+pub fn next(r: Receiver) -> Result<(), Refusal>
+    ensures { result ≡ next_refusal r }
+{
+    let y = r.front.sync.run;
+    if sync::plain::past_end(y.base, y.t) {
+        return Err(Refusal::Position);
+    }
+    Ok(())
+}
 
 // A symbol by the state alone.
-fn in_state(r: Receiver) -> u8
+fn in_state(r: Receiver) -> Result<(), Refusal>
     ensures { result ≡ state_refusal r }
 {
-    if receiver::plain::receiver_within(r) {
-        let y = r.front.sync.run;
-        let past = sync::plain::past_end(y.base, y.t);
-        if past { 7 } else { 0 }
-    } else {
-        6
-    }
+    receiver::plain::range_refusal(r)?;
+    next(r)
 }
 
 // A symbol, as far as that is known without its slot.
@@ -26,28 +56,9 @@ pub(crate) fn soon(
     f: &[i8; 48],
     s: &[i8; 48],
     table: usize,
-) -> u8
+) -> Result<(), Refusal>
     ensures { result ≡ soon_refusal r acc store soft f.now s.now table }
 {
-    if (acc == 9296) & (store == 18592) & (44880 <= soft) {
-        if sync_corr::plain::ones(f) & sync_corr::plain::ones(s) {
-            if table == 1024 { in_state(r) } else { 3 }
-        } else {
-            2
-        }
-    } else {
-        1
-    }
-}
-
-// The state as it was handed in, and nothing told.
-pub(crate) fn refused(n: u8, r: Receiver) -> Answer
-    ensures { result ≡ refused_by n r }
-{
-    Answer {
-        refusal: n,
-        receiver: r,
-        events: receiver::told::no_events(),
-        runs: receiver::told::no_runs(),
-    }
+    lent(acc, store, soft, f, s, table)?;
+    in_state(r)
 }

@@ -1,11 +1,11 @@
 -- Words, slots and correlations as numbers.
-use Rattle.std.specs.Prelude.{ℕ, ◌+◌, List, eqb}
+use Rattle.sync_heads.specs.Numbers.{slot_in}
+use Rattle.sync_heads.specs.declared.SlotNumber.{SlotNumber}
+use Rattle.std.specs.Prelude.{ℕ, ◌+◌, List, eqb, Option, None, Some}
 use Rattle.laws.specs.Choice.{when◌then◌else◌}
 use Rattle.sync_corr.specs.declared.Corr.{Corr}
 use Rattle.sync_heads.specs.declared.Word.{Word}
 use Rattle.sync_heads.specs.declared.Word.TheVariants.{Ssync, Fsync, NotFsync}
-use Rattle.sync_heads.specs.declared.Slot.{Slot}
-use Rattle.sync_heads.specs.declared.Slot.TheVariants.{Unknown, In}
 use Rattle.fields.specs.Fields.{at, at8, at32, signed32}
 use Rattle.slot_wire.specs.declared.SlotShown.{SlotShown}
 
@@ -18,12 +18,12 @@ word_number Fsync = 1
 word_number NotFsync = 2
 
 -- three numbers from k on: whether the slot is known, its number, its frame
-unfoldable pub slot_of : List ℕ → ℕ → Slot
-slot_of p k = when eqb (at p k) 0 then Unknown else In (at8 p (k + 1)) (at32 p (k + 2))
+unfoldable pub slot_of : List ℕ → ℕ → Option SlotNumber
+slot_of p k = when eqb (at p k) 0 then None else slot_in (at8 p (k + 1)) (at32 p (k + 2))
 
-unfoldable pub slot_shown : Slot → SlotShown
-slot_shown Unknown = record { known = 0; number = 0; frame = 0 }
-slot_shown (In number frame) = record { known = 1; number = number; frame = frame }
+unfoldable pub slot_shown : Option SlotNumber → SlotShown
+slot_shown None = record { known = 0; number = 0; frame = 0 }
+slot_shown (Some s) = record { known = 1; number = s.number; frame = s.frame }
 
 -- two numbers from k on: real and imaginary part
 unfoldable pub corr_of : List ℕ → ℕ → Corr

@@ -1,14 +1,14 @@
 // Words, slots and correlations as numbers of calls and answers, for the replay programs.
-#![tactic(auto)]
+#![tactic(auto, unfolding(crate::specs::Slots::word_number, crate::specs::Slots::slot_shown))]
 
 pub mod ranged;
 
 ghost use Rattle.std.specs.Prelude.{◌≡◌};
 ghost use Rattle.slot_wire.specs.Slots.{word_of, word_number, slot_shown};
 
-use sync_heads::{Slot, Word};
+use sync_heads::{SlotNumber, Word};
 
-// Whether the slot is known, its number and its frame.
+// Whether the slot is known, its number and its frame: numbers of an answer's bytes.
 #[derive(Clone, Copy)]
 pub struct SlotShown {
     pub known: u64,
@@ -36,19 +36,19 @@ pub fn word_number(w: Word) -> u64
     }
 }
 
-pub fn slot_shown(s: Slot) -> SlotShown
+pub fn slot_shown(s: Option<SlotNumber>) -> SlotShown
     ensures { result ≡ slot_shown s }
 {
     match s {
-        Slot::Unknown => SlotShown {
+        None => SlotShown {
             known: 0,
             number: 0,
             frame: 0,
         },
-        Slot::In { number, frame } => SlotShown {
+        Some(s) => SlotShown {
             known: 1,
-            number: number as u64,
-            frame: frame as u64,
+            number: s.number as u64,
+            frame: s.frame as u64,
         },
     }
 }

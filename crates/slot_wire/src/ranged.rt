@@ -1,22 +1,25 @@
 // For programs, which prove that the numbers are there.
+#![tactic(auto)]
+
 ghost use Rattle.std.specs.Prelude.{◌≡◌, ◌+◌, ◌≤◌};
 ghost use Rattle.slot_wire.specs.Slots.{slot_of, corr_of};
 
 use sync_corr::Corr;
-use sync_heads::Slot;
+use sync_heads::SlotNumber;
+use wire::Field;
 
 // The slot of the three numbers from k on.
-pub fn slot_at(p: &[u64; 24], k: usize) -> Slot
+pub fn slot_at(p: &[u64; 24], k: usize) -> Option<SlotNumber>
     requires { k + 3 ≤ 24 }
     ensures { result ≡ slot_of p.now k }
 {
     if p[k] == 0 {
-        Slot::Unknown
+        None
     } else {
-        Slot::In {
-            number: wire::low8(p[k + 1]),
-            frame: wire::low32(p[k + 2]),
-        }
+        Some(SlotNumber {
+            number: u8::of_bits(p[k + 1]),
+            frame: u32::of_bits(p[k + 2]),
+        })
     }
 }
 
@@ -26,7 +29,7 @@ pub fn corr_at(p: &[u64; 24], k: usize) -> Corr
     ensures { result ≡ corr_of p.now k }
 {
     Corr {
-        re: wire::signed32(p[k]),
-        im: wire::signed32(p[k + 1]),
+        re: i32::of_bits(p[k]),
+        im: i32::of_bits(p[k + 1]),
     }
 }

@@ -1,15 +1,12 @@
 -- Laws of the definitions that the functions of solve are proved by. Assumes nothing.
-use Rattle.std.proofs.Common.{◌≡◌, ℕ, zero, suc, ◌+◌, ◌-◌, ◌*◌, ◌/◌, ◌^◌, ◌<◌, ◌≤◌, Bool, true, false, ◌&&◌, ◌||◌, T, eqb, ltb, leb, List, [], ◌∷◌, ◌++◌, length, get_or, drop, set, replicate, ℤ, pos, negsuc, nat_abs, sym, refl, ap, ◌∙◌, ⊎_elim, append_assoc, append-nil, zero-le, le_of_suc-le-suc, not-suc-le-zero, eq-or-lt_of_le, mul-le-mul_left, add-one, arith, le→leb, lt→ltb, length-append, drop_of_length-le, drop-cons, ltb-false, ltb-true, le-ltb, lt-ltb, leb-true}
+use Rattle.std.proofs.Common.{◌≡◌, ℕ, zero, suc, ◌+◌, ◌-◌, ◌*◌, ◌/◌, ◌^◌, ◌<◌, ◌≤◌, Bool, true, false, ◌&&◌, ◌||◌, T, eqb, ltb, leb, List, [], ◌∷◌, ◌++◌, length, get_or, drop, set, replicate, ℤ, pos, negsuc, nat_abs, sym, refl, ap, ◌∙◌, ⊎_elim, append_assoc, append-nil, zero-le, le_of_suc-le-suc, not-suc-le-zero, eq-or-lt_of_le, mul-le-mul_left, add-one, arith, le→leb, lt→ltb, length-append, drop_of_length-le, drop-cons, ltb-false, ltb-true, le-ltb, lt-ltb, leb-true, to_z, of_z, to_z-of_z, w64}
 use lib.Ieee.{Float, nan, binary64, of_bits, in_float}
-use lib.ListN.{length-replicate, get_or-eq_default}
+use lib.ListN.{length-replicate}
 use lib.Seq.{set_at}
 use lib.Signed.{lt_z}
-use Rattle.laws.proofs.Lists.{firsts-step}
-use Rattle.laws.specs.Ranges.{firsts}
 use Rattle.laws.proofs.Tests.{and_both, by_test, neither}
-use Rattle.solve.specs.Answers.{wide, wide_among, any_wide, outside_of}
+use Rattle.solve.specs.Answers.{wide, any_wide, outside_of}
 use Rattle.solve.specs.System.{Narrow, parts}
-use Rattle.solve.specs.Taps.{no_taps}
 use Rattle.sums.specs.declared.Sums.{Sums}
 use Rattle.solve_step.specs.Complex.{with_entry}
 use Rattle.solve_step.specs.declared.complex.Complex.{Complex}
@@ -30,24 +27,13 @@ wide_is (negsuc a) = or_no (ltb (2 ^ 53 - 1) a) ∙ one_up (2 ^ 53 - 1) a
         (λ t. t ∙ sym (le-ltb (m + 1) (suc a) (omega (arith, ltb-false m a t))))
 
 -- a test that finds none leaves every entry narrow, and so a double
-within : (l : List ℤ) (n k : ℕ) → wide_among l n ≡ false → k < n → nat_abs (get_or l k (pos 0)) ≤ 2 ^ 53
-unfolding wide_among
-within l zero k e h = absurd (not-suc-le-zero h)
-within l (suc n) k e h =
-    let b = neither (wide_among l n) (wide (get_or l n (pos 0))) e in
-    ⊎_elim
-    (λ (q : k ≡ n). rw q (ltb-false (2 ^ 53) (nat_abs (get_or l n (pos 0))) b.1))
-    (λ (j : k < n). within l n k b.0 j)
-    (eq-or-lt_of_le (le_of_suc-le-suc h))
+within : (l : List ℤ) (k : ℕ) → any_wide l ≡ false → nat_abs (get_or l k (pos 0)) ≤ 2 ^ 53
+within [] k e = zero-le
+within (v ∷ l) zero e = ltb-false (2 ^ 53) (nat_abs v) (neither (wide v) (any_wide l) e).0
+within (v ∷ l) (suc k) e = within l k (neither (wide v) (any_wide l) e).1
 
 narrow : (l : List ℤ) → any_wide l ≡ false → Narrow l
-narrow l e =
-    record {
-      small = λ k.
-          by_test (ltb k (length l))
-          (λ t. within l (length l) k e (ltb-true k (length l) t))
-          (λ t. rw (get_or-eq_default l (pos 0) (ltb-false k (length l) t)) zero-le);
-    }
+narrow l e = record { small = λ k. within l k e }
 
 pub taken : (s : Sums) → outside_of s ≡ false → (Narrow s.r) × (Narrow s.p)
 unfolding outside_of
@@ -60,6 +46,10 @@ pub sum_in_float : (v : ℤ) → nat_abs v ≤ 2 ^ 53 → T (in_float binary64 v
 unfolding in_float
 sum_in_float (pos n) h = le→leb n (2 ^ 53) h
 sum_in_float (negsuc n) h = lt→ltb n (2 ^ 53) h
+
+pub sum_fits : (v : ℤ) → nat_abs v ≤ 2 ^ 53 → to_z w64 (of_z w64 v) ≡ v
+sum_fits (pos n) h = to_z-of_z {w = w64} (record { sfits = omega arith })
+sum_fits (negsuc n) h = to_z-of_z {w = w64} (record { sfits = omega arith })
 
 -- ---- the place of an upper entry
 -- a test that all numbers below n pass
@@ -125,14 +115,3 @@ all-written xs ys n h = ap (λ l. xs ++ l) (drop_of_length-le ys h) ∙ append-n
 
 pub parts_ended : (f : ℕ → Complex) (n k : ℕ) → k ≡ n → parts f k ++ drop (2 * k) (zeros (2 * n)) ≡ parts f n
 parts_ended f n k e = rw e (all-written (parts f n) (zeros (2 * n)) (2 * n) (omega (arith, length_zeros (2 * n))))
-
--- ---- the same of whole numbers
-length_no_taps : length no_taps ≡ 22
-unfolding no_taps
-length_no_taps = length-replicate 22 (pos 0)
-
-pub taps_turn : (f : ℕ → ℤ) (k : ℕ) (v : ℤ) (t : List ℤ) → k < 22 → t ≡ firsts f k ++ drop k no_taps → v ≡ f k → set t k v ≡ firsts f (k + 1) ++ drop (k + 1) no_taps
-taps_turn f k v t h i e = rw i (firsts-step f no_taps k v e (omega (arith, length_no_taps)))
-
-pub taps_ended : (f : ℕ → ℤ) (k : ℕ) → k ≡ 22 → firsts f k ++ drop k no_taps ≡ firsts f 22
-taps_ended f k e = rw e (all-written (firsts f 22) no_taps 22 (omega (arith, length_no_taps)))

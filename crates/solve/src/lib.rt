@@ -8,22 +8,16 @@ mod taps;
 ghost use Rattle.std.specs.Prelude.{◌≡◌};
 ghost use Rattle.solve.specs.Answers.{solve_answer};
 
+use refusal::Refusal;
 use sums::Sums;
 
-// The 11 taps, each a pair, with 14 fraction bits; all 0 after a refusal.
-#[derive(Clone, Copy)]
-pub struct Solved {
-    pub refusal: u8,
-    pub taps: [i16; 22],
-}
-
-pub fn solve_sums(s: Sums) -> Solved
+// The 11 taps, each a pair, with 14 fraction bits.
+pub fn solve_sums(s: Sums) -> Result<[i16; 22], Refusal>
     ensures { result ≡ solve_answer s }
 {
     if range::outside(s) {
-        taps::refused(9)
-    } else {
-        let t = system::system(s);
-        taps::answer(solve_step::solve(t))
+        return Err(Refusal::Sums);
     }
+    let x = solve_step::solve(system::system(s))?;
+    Ok(taps::taps(x))
 }

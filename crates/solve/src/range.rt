@@ -14,13 +14,7 @@ fn wide(v: i64) -> bool
 fn any_wide(l: &[i64]) -> bool
     ensures { result ≡ any_wide l.now }
 {
-    let mut any = false;
-    let mut k: usize = 0;
-    while k < l.len() {
-        any = any | wide(l[k]);
-        k += 1;
-    }
-    any
+    l.iter().any(|v| wide(*v))
 }
 
 pub(crate) fn outside(s: Sums) -> bool

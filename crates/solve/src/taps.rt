@@ -1,12 +1,8 @@
 // The taps, rounded to whole numbers with halves away from zero.
-ghost use Rattle.std.specs.Prelude.{◌≡◌, ◌≤◌, true, from_bits};
-ghost use Rattle.std.specs.Float.{binary64};
+ghost use Rattle.std.specs.Prelude.{◌≡◌, ◌≤◌, ◌<◌, true, from_bits, slice_index_or};
+ghost use Rattle.std.specs.Float.{binary64, nan};
 ghost use Rattle.std.specs.Float.Ieee.{lt};
 ghost use Rattle.solve.specs.Taps.{size_of, rounded_of, tap_of, taps_of};
-ghost use Rattle.solve.specs.Answers.{refused_by, answer_of};
-
-use crate::Solved;
-use solve_step::Solution;
 
 // A number above 0, rounded, and not past 32,768. Twice a double is exact, and so is its whole part n: the rounded number is the half of
 // n + 1. (y + 0.5 is not exact: just under a half it would round to 1.)
@@ -42,37 +38,13 @@ fn tap(v: f64) -> i16
     round(v * 16384.0)
 }
 
-fn taps(x: [f64; 22]) -> [i16; 22]
+pub(crate) fn taps(x: [f64; 22]) -> [i16; 22]
     ensures { result ≡ taps_of x }
 {
-    let mut t = [0i16; 22];
-    let mut k: usize = 0;
-    while k < 22 {
-        t[k] = tap(x[k]);
-        k += 1;
-    }
-    t
-}
-
-pub(crate) fn refused(n: u8) -> Solved
-    ensures { result ≡ refused_by n }
-{
-    Solved {
-        refusal: n,
-        taps: [0i16; 22],
-    }
-}
-
-pub(crate) fn answer(s: Solution) -> Solved
-    ensures { result ≡ answer_of s }
-{
-    if s.refusal == 0 {
-        let x = s.x;
-        Solved {
-            refusal: 0,
-            taps: taps(x),
-        }
-    } else {
-        refused(s.refusal)
-    }
+    std::array::from_fn(
+        |k: usize| -> i16
+            requires { k < 22 }
+            ensures { result ≡ tap_of (slice_index_or x k nan) }
+        { tap(x[k]) },
+    )
 }

@@ -8,7 +8,7 @@ use Rattle.laws.specs.Choice.{if_yes, if_no}
 use Rattle.solve_step.specs.Complex.{conjugate_of}
 use Rattle.solve_step.specs.Pivot.{tiny, better_of, judged_of}
 use Rattle.solve_step.specs.declared.pivot.Best.{Best}
-use Rattle.solve_step.specs.declared.pivot.Pivot.TheVariants.{Row}
+use Rattle.std.specs.Prelude.{Ok}
 
 -- ---- THE LIMIT of the pivot is the double nearest to 1 / 10^24: IEEE 754's rounding of that fraction
 pub tiny_theorem : tiny ≡ round binary64 false 1 (10 ^ 24)
@@ -34,7 +34,7 @@ pub nan_stays : (p r : ℕ) (z : Float) → better_of (record { row = p; size = 
 unfolding better_of
 nan_stays p r z = if_no _ _ _ (first z)
 
-pub nan_is_a_row : (p : ℕ) → judged_of (record { row = p; size = nan }) ≡ Row p nan
+pub nan_is_a_row : (p : ℕ) → judged_of (record { row = p; size = nan }) ≡ Ok (record { row = p; size = nan })
 unfolding judged_of lt
 nan_is_a_row p = if_no _ _ _ refl
 

@@ -10,11 +10,13 @@ use Rattle.laws.proofs.Tests.{if_both}
 use Rattle.solve_step.specs.Back.{rest_from, unknown_at, back_from}
 use Rattle.solve_step.specs.Complex.{difference_of, product_of, squared_of, entry_at, with_entry, place}
 use Rattle.solve_step.specs.Eliminate.{entry_swap, swap_from, entry_step, row_from, row_step, rows_from, column_step, reduce_from}
-use Rattle.solve_step.specs.Pivot.{tiny, better_of, scan_from, judged_of, pivot_of, InRange}
+use Rattle.solve_step.specs.Pivot.{tiny, better_of, scan_from, judged_of, pivot_of}
 use Rattle.solve_step.specs.declared.System.{System}
 use Rattle.solve_step.specs.declared.complex.Complex.{Complex}
 use Rattle.solve_step.specs.declared.pivot.Best.{Best}
-use Rattle.solve_step.specs.declared.pivot.Pivot.TheVariants.{Row, TooSmall}
+use Rattle.solve_step.specs.declared.pivot.TooSmall.{TooSmall}
+use Rattle.refusal.specs.declared.Refusal.TheVariants.{Pivot}
+use Rattle.std.specs.Prelude.{Result, Ok, Err, IfOk}
 
 -- a loop that counts to n, at i: one turn more is left than at i + 1
 pub turns : (n i : ℕ) → i < n → n - i ≡ suc (n - suc i)
@@ -38,9 +40,9 @@ pub better_in : (b : Best) (r : ℕ) (z : Float) → b.row < 11 → r < 11 → (
 unfolding better_of
 better_in b r z h k = if_both (λ (x : Best). x.row < 11) (le b.size z) (record { row = r; size = z }) b k h
 
-pub judged_in : (b : Best) → b.row < 11 → InRange (judged_of b)
+pub judged_in : (b : Best) → b.row < 11 → IfOk (judged_of b) (λ p. p.row < 11)
 unfolding judged_of
-judged_in b h = if_both InRange (lt b.size tiny) (TooSmall b.size) (Row b.row b.size) tt h
+judged_in b h = if_both (λ (r : Result Best TooSmall). IfOk r (λ p. p.row < 11)) (lt b.size tiny) (Err (record { size = b.size })) (Ok b) tt h
 
 -- ---- rows
 pub swap_turn : (a : List Float) (c p k : ℕ) → k < 11
@@ -70,17 +72,16 @@ unfolding rows_from
 rows_ended s c r h = rw (ended 11 r h)
 
 -- ---- columns
-pub reduce_row : (s : System) (c p : ℕ) (z : Float) → c < 11 → pivot_of s.a c ≡ Row p z
-    → reduce_from s c (11 - c) ≡ reduce_from (column_step s c p) (c + 1) (11 - (c + 1))
+pub reduce_row : (s : System) (c : ℕ) (b : Best) → c < 11 → pivot_of s.a c ≡ Ok b
+    → reduce_from s c (11 - c) ≡ reduce_from (column_step s c b.row) (c + 1) (11 - (c + 1))
 unfolding reduce_from
-reduce_row s c p z h e = rw (turns 11 c h, add-one, reduce_from, e)
+reduce_row s c b h e = rw (turns 11 c h, add-one, reduce_from, e)
 
-pub reduce_stop : (s : System) (c : ℕ) (z : Float) → c < 11 → pivot_of s.a c ≡ TooSmall z
-    → reduce_from s c (11 - c) ≡ record { refusal = 10; system = s }
+pub reduce_stop : (s : System) (c : ℕ) (x : TooSmall) → c < 11 → pivot_of s.a c ≡ Err x → reduce_from s c (11 - c) ≡ Err Pivot
 unfolding reduce_from
-reduce_stop s c z h e = rw (turns 11 c h, reduce_from, e)
+reduce_stop s c x h e = rw (turns 11 c h, reduce_from, e)
 
-pub reduce_ended : (s : System) (c : ℕ) → 11 ≤ c → reduce_from s c (11 - c) ≡ record { refusal = 0; system = s }
+pub reduce_ended : (s : System) (c : ℕ) → 11 ≤ c → reduce_from s c (11 - c) ≡ Ok s
 unfolding reduce_from
 reduce_ended s c h = rw (ended 11 c h)
 

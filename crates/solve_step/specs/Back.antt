@@ -1,13 +1,13 @@
 -- Back substitution, and the solution.
-use Rattle.std.specs.Prelude.{List, ℕ, zero, suc, ◌+◌, ◌-◌, eqb, replicate, Float}
+use Rattle.std.specs.Prelude.{List, ℕ, zero, suc, ◌+◌, ◌-◌, replicate, Result, Float}
+use Rattle.std.specs.Result.{result_map_both}
 use Rattle.std.specs.Float.{binary64}
 use Rattle.std.specs.Float.Ieee.{of_bits}
-use Rattle.laws.specs.Choice.{when◌then◌else◌}
+use Rattle.refusal.specs.declared.Refusal.{Refusal}
 use Rattle.solve_step.specs.Complex.{difference_of, product_of, quotient_of, entry_at, with_entry, place}
 use Rattle.solve_step.specs.Eliminate.{reduce_from}
 use Rattle.solve_step.specs.declared.complex.Complex.{Complex}
 use Rattle.solve_step.specs.declared.System.{System}
-use Rattle.solve_step.specs.declared.Solution.{Solution}
 
 -- s less the products of row r with the unknowns, n columns from k on still to be done
 unfoldable pub rest_from : List Float → List Float → ℕ → ℕ → Complex → ℕ → Complex
@@ -27,7 +27,6 @@ back_from s x (suc r) = back_from s (with_entry x r (unknown_at s.a s.b x r)) r
 unfoldable pub none_yet : List Float
 none_yet = replicate 22 (of_bits binary64 0)
 
-unfoldable pub solution_of : System → Solution
-solution_of s =
-    let t = reduce_from s 0 11 in
-    when eqb t.refusal 0 then record { refusal = 0; x = back_from t.system none_yet 11 } else record { refusal = t.refusal; x = none_yet }
+-- 10, "a column's greatest squared magnitude is under 1e-24"; else the unknowns
+unfoldable pub solution_of : System → Result (List Float) Refusal
+solution_of s = result_map_both (λ t. back_from t none_yet 11) (λ why. why) (reduce_from s 0 11)

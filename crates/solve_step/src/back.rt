@@ -11,11 +11,9 @@ fn rest(a: &[f64; 242], x: &[f64; 22], r: usize, s: Complex) -> Complex
     ensures { result ≡ rest_from a.now x.now r (r + 1) s (11 - (r + 1)) }
 {
     let mut t = s;
-    let mut k = r + 1;
-    while k < 11 {
-        let v = ranged::entry(a, r * 11 + k).multiply(ranged::right(x, k));
+    for k in r + 1..11 {
+        let v = ranged::entry(a, r * 11 + k).multiply(ranged::entry(x, k));
         t = t.subtract(v);
-        k += 1;
     }
     t
 }
@@ -24,7 +22,7 @@ fn unknown(a: &[f64; 242], b: &[f64; 22], x: &[f64; 22], r: usize) -> Complex
     requires { r < 11 }
     ensures { result ≡ unknown_at a.now b.now x.now r }
 {
-    let v = ranged::right(b, r);
+    let v = ranged::entry(b, r);
     let d = ranged::entry(a, r * 11 + r);
     rest(a, x, r, v).quotient(d)
 }
@@ -32,14 +30,10 @@ fn unknown(a: &[f64; 242], b: &[f64; 22], x: &[f64; 22], r: usize) -> Complex
 pub(crate) fn back(s: System) -> [f64; 22]
     ensures { result ≡ back_from s none_yet 11 }
 {
-    let a = s.a;
-    let b = s.b;
     let mut x = [0.0f64; 22];
-    let mut r: usize = 11;
-    while 0 < r {
-        r -= 1;
-        let v = unknown(&a, &b, &x, r);
-        ranged::set_right(&mut x, r, v);
+    for r in (0..11).rev() {
+        let v = unknown(&s.a, &s.b, &x, r);
+        ranged::set_entry(&mut x, r, v);
     }
     x
 }

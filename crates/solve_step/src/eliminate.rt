@@ -2,32 +2,17 @@
 ghost use Rattle.std.specs.Prelude.{◌≡◌};
 ghost use Rattle.solve_step.specs.Eliminate.{reduce_from};
 
-use crate::pivot::Pivot;
-use crate::{Reduced, System, pivot, rows};
+use crate::{System, pivot, rows};
+use refusal::Refusal;
 
-pub(crate) fn eliminate(s: System) -> Reduced
+pub(crate) fn eliminate(s: System) -> Result<System, Refusal>
     ensures { result ≡ reduce_from s 0 11 }
 {
     let mut a = s.a;
     let mut b = s.b;
-    let mut c: usize = 0;
-    while c < 11 {
-        let found = pivot::find_pivot(&a, c);
-        match found {
-            Pivot::Row(p, _) => {
-                rows::eliminate_column(&mut a, &mut b, c, p);
-            }
-            Pivot::TooSmall(_) => {
-                return Reduced {
-                    refusal: 10,
-                    system: System { a: a, b: b },
-                };
-            }
-        }
-        c += 1;
+    for c in 0..11 {
+        let best = pivot::find_pivot(&a, c)?;
+        rows::eliminate_column(&mut a, &mut b, c, best.row);
     }
-    Reduced {
-        refusal: 0,
-        system: System { a: a, b: b },
-    }
+    Ok(System { a, b })
 }

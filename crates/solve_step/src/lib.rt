@@ -12,6 +12,8 @@ mod rows;
 ghost use Rattle.std.specs.Prelude.{◌≡◌};
 ghost use Rattle.solve_step.specs.Back.{solution_of};
 
+use refusal::Refusal;
+
 // The matrix row by row, and the right side: pairs, the real part before the imaginary part.
 #[derive(Clone, Copy)]
 pub struct System {
@@ -19,34 +21,10 @@ pub struct System {
     pub b: [f64; 22],
 }
 
-// A system after elimination. Refusal 10: it stopped at a pivot that is too small.
-#[derive(Clone, Copy)]
-pub struct Reduced {
-    pub refusal: u8,
-    pub system: System,
-}
-
-// The 11 unknowns; all 0 after a refusal.
-#[derive(Clone, Copy)]
-pub struct Solution {
-    pub refusal: u8,
-    pub x: [f64; 22],
-}
-
-pub fn solve(s: System) -> Solution
+// The 11 unknowns.
+pub fn solve(s: System) -> Result<[f64; 22], Refusal>
     ensures { result ≡ solution_of s }
 {
-    let t = eliminate::eliminate(s);
-    if t.refusal == 0 {
-        let u = t.system;
-        Solution {
-            refusal: 0,
-            x: back::back(u),
-        }
-    } else {
-        Solution {
-            refusal: t.refusal,
-            x: [0.0f64; 22],
-        }
-    }
+    let t = eliminate::eliminate(s)?;
+    Ok(back::back(t))
 }

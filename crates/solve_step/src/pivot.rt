@@ -1,15 +1,10 @@
 // The pivot of a column. A test with a NaN is false: a NaN takes over from nothing, nothing takes over from a NaN, and a NaN is not too small.
-ghost use Rattle.std.specs.Prelude.{◌≡◌, ◌<◌};
-ghost use Rattle.solve_step.specs.Pivot.{better_of, judged_of, pivot_of, InRange};
+ghost use Rattle.std.specs.Prelude.{◌≡◌, ◌<◌, IfOk};
+ghost use Rattle.refusal.specs.declared.Refusal.TheVariants.{Pivot};
+ghost use Rattle.solve_step.specs.Pivot.{better_of, judged_of, pivot_of};
 
 use crate::ranged;
-
-// The row of a column's greatest entry with its squared magnitude, or only this where it is too small.
-#[derive(Clone, Copy)]
-pub enum Pivot {
-    Row(usize, f64),
-    TooSmall(f64),
-}
+use refusal::Refusal;
 
 // The row to take so far, and the squared magnitude of its entry.
 #[derive(Clone, Copy)]
@@ -30,31 +25,43 @@ impl Best {
         }
     }
 
-    pub fn judge(self) -> Pivot
+    pub fn judge(self) -> Result<Best, TooSmall>
         ensures { result ≡ judged_of self }
     {
         if self.size < 1e-24 {
-            Pivot::TooSmall(self.size)
+            Err(TooSmall { size: self.size })
         } else {
-            Pivot::Row(self.row, self.size)
+            Ok(self)
         }
     }
 }
 
+// The squared magnitude of a column's greatest entry, where it is too small.
+#[derive(Clone, Copy)]
+pub struct TooSmall {
+    pub size: f64,
+}
+
+impl From<TooSmall> for Refusal {
+    ghost from_gives = { λ _ r. r ≡ Pivot };
+
+    fn from(_size: TooSmall) -> Refusal {
+        Refusal::Pivot
+    }
+}
+
 // Of column c, from row c on.
-pub(crate) fn find_pivot(a: &[f64; 242], c: usize) -> Pivot
+pub(crate) fn find_pivot(a: &[f64; 242], c: usize) -> Result<Best, TooSmall>
     requires { c < 11 }
-    ensures { (result ≡ pivot_of a.now c) × InRange result }
+    ensures { (result ≡ pivot_of a.now c) × IfOk result (λ b. b.row < 11) }
 {
     let mut b = Best {
         row: c,
         size: ranged::entry(a, c * 11 + c).squared(),
     };
-    let mut r = c + 1;
-    while r < 11 {
+    for r in c + 1..11 {
         let z = ranged::entry(a, r * 11 + c).squared();
         b = b.against(r, z);
-        r += 1;
     }
     b.judge()
 }

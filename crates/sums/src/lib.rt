@@ -18,7 +18,7 @@ pub fn new(frame: u32) -> Sums
     ensures { result ≡ empty_sums frame }
 {
     Sums {
-        frame: frame,
+        frame,
         count: 0,
         r: [0i64; 132],
         p: [0i64; 22],

@@ -1,8 +1,10 @@
 -- The window that a loop shifts, and the tests of positions. Assumes nothing.
 use Prim.Native.Nat.{◌+◌, ◌-◌, ◌<◌, ◌^◌, ◌≤◌, suc, zero, ℕ}
 use Rattle.laws.proofs.Lists.{length-firsts}
-use Rattle.laws.proofs.Tests.{and_both, by_test}
-use Rattle.laws.specs.Choice.{if_no, if_yes, when◌then◌else◌}
+use Rattle.laws.proofs.Tests.{and_both}
+use Rattle.laws.proofs.Taken.{ok_no, ok_yes}
+use Rattle.std.specs.Prelude.{Ok}
+use Rattle.refusal.specs.declared.Refusal.TheVariants.{Stores, Words, Arithmetic, Position}
 use Rattle.laws.specs.Ranges.{firsts}
 use Rattle.sync_corr.specs.Correlate.{both_of, ones_of}
 use Rattle.sync_corr.specs.declared.Both.{Both}
@@ -63,7 +65,7 @@ module _ {A : Type 0} where
 -- ---- what a symbol makes, from the results of the parts
 pub accepted_is : (s : SlotSync) (i q : ℤ) (f w : List ℤ) (acc : List ℕ) (v k : List ℤ) (b : Both) (p : ℕ) (x : Step) →
     v ≡ window_after s.win i q → b ≡ both_of v f w → p ≡ place_of 9296 s.run.t → x ≡ step_of 9296 s.run b (get_or acc p 0) → k ≡ kept_window x.stores v →
-    record { refusal = 0; sync = record { win = k; run = x.run }; last = x.last; events = x.events } ≡ accepted_push s i q f w acc
+    record { sync = record { win = k; run = x.run }; last = x.last; events = x.events } ≡ accepted_push s i q f w acc
 unfolding accepted_push symbol_of
 accepted_is s i q f w acc v k b p x ev eb ep ex ek = rw (ek, ex, ep, eb, ev)
 
@@ -80,27 +82,12 @@ pub record Taking (len : ℕ) (f w : List ℤ) (r : Run) : Type 0 where
   pub ones_w : ones_of w ≡ true
   pub ready : RunOk r
 
-no : {X : Type 0} (n : ℕ) → suc n ≡ 0 → X
-no n e = absurd (omega (arith, e))
-
-pub taking : (len : ℕ) (f w : List ℤ) (r : Run) → push_refusal len f w r ≡ 0 → Taking len f w r
+pub taking : (len : ℕ) (f w : List ℤ) (r : Run) → push_refusal len f w r ≡ Ok tt → Taking len f w r
 unfolding push_refusal
 taking len f w r h =
-    let past = leb (2 ^ 62) (r.base + r.t) in
-    let n7 : ℕ = when past then 7 else 0 in
-    let n6 : ℕ = when run_in_range r then n7 else 6 in
-    let n2 : ℕ = when ones_of f && ones_of w then n6 else 2 in
-    by_test (eqb len 9296)
-    (λ a. let h1 : n2 ≡ 0 = sym (if_yes (eqb len 9296) n2 1 a) ∙ h in
-    by_test (ones_of f && ones_of w)
-    (λ b. let h2 : n6 ≡ 0 = sym (if_yes (ones_of f && ones_of w) n6 2 b) ∙ h1 in
-    by_test (run_in_range r)
-    (λ d. let h3 : n7 ≡ 0 = sym (if_yes (run_in_range r) n7 6 d) ∙ h2 in
-    by_test past
-    (λ e. no 6 (sym (if_yes past 7 0 e) ∙ h3))
-    (λ e.
-    let o = and_both (ones_of f) (ones_of w) b in
-    record { long = eqb-true len 9296 a; ones_f = o.0; ones_w = o.1; ready = run_ready r d e }))
-    (λ d. no 5 (sym (if_no (run_in_range r) n7 6 d) ∙ h2)))
-    (λ b. no 1 (sym (if_no (ones_of f && ones_of w) n6 2 b) ∙ h1)))
-    (λ a. no 0 (sym (if_no (eqb len 9296) n2 1 a) ∙ h))
+    let a = ok_yes (eqb len 9296) _ Stores h in
+    let b = ok_yes (ones_of f && ones_of w) _ Words a.1 in
+    let d = ok_yes (run_in_range r) _ Arithmetic b.1 in
+    let e = ok_no (leb (2 ^ 62) (r.base + r.t)) Position _ d.1 in
+    let o = and_both (ones_of f) (ones_of w) b.0 in
+    record { long = eqb-true len 9296 a.0; ones_f = o.0; ones_w = o.1; ready = run_ready r d.0 e.0 }

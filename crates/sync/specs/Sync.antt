@@ -1,7 +1,7 @@
 -- What one symbol makes of a sync and its accumulators.
-use Rattle.std.specs.Prelude.{ℕ, List, [], ◌∷◌, ◌++◌, ℤ, pos, length, get_or, set, replicate, drop}
+use Rattle.sync_heads.specs.declared.FrameHead.{FrameHead}
+use Rattle.std.specs.Prelude.{ℕ, List, [], ◌∷◌, ◌++◌, ℤ, pos, length, get_or, set, replicate, drop, Option}
 use Rattle.sync_corr.specs.Correlate.{both_of}
-use Rattle.sync_heads.specs.declared.Record.{Record}
 use Rattle.sync_step.specs.declared.Stores.{Stores}
 use Rattle.sync_step.specs.declared.Stores.TheVariants.{Nothing, One, Zeros}
 use Rattle.sync_step.specs.declared.Step.{Step}
@@ -17,7 +17,7 @@ unfoldable pub no_window : List ℤ
 no_window = replicate 48 (pos 0)
 
 -- a sync that starts at a position with this frame record
-unfoldable pub started_sync : ℕ → Record → SlotSync
+unfoldable pub started_sync : ℕ → Option FrameHead → SlotSync
 started_sync at last = record { win = no_window; run = started_of at last }
 
 -- the accumulators after a symbol at place p: "New and restarted syncs zero the accumulators."

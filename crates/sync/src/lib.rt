@@ -9,7 +9,7 @@ mod refusals;
 ghost use Rattle.std.specs.Prelude.{◌≡◌};
 ghost use Rattle.sync.specs.Answers.{new_answer, new_acc, push_answer, push_acc, restart_answer, restart_acc};
 
-use sync_heads::Record;
+use refusal::{Refusal, Refused};
 use sync_step::{Events, LastCorr, Run};
 
 // The last 24 symbols, oldest first, and all else.
@@ -19,70 +19,52 @@ pub struct SlotSync {
     pub run: Run,
 }
 
-#[derive(Clone, Copy)]
-pub struct Started {
-    pub refusal: u8,
-    pub sync: SlotSync,
-}
-
+// What a symbol that is taken leaves and tells.
 #[derive(Clone, Copy)]
 pub struct Pushed {
-    pub refusal: u8,
     pub sync: SlotSync,
     pub last: LastCorr,
     pub events: Events,
 }
 
 // A sync whose first symbol stands at a position.
-pub fn new(at: u64, acc: &mut [u32]) -> Started
+#[tactic(auto, using(laws::specs::Choice::cases), unfolding(crate::specs::Answers::new_answer, crate::specs::Answers::new_acc))]
+pub fn new(at: u64, acc: &mut [u32]) -> Result<SlotSync, Refusal>
     ensures { (result ≡ new_answer at acc.old) × (acc.new ≡ new_acc acc.old) }
 {
-    let s = plain::started(at, Record::Never);
-    if acc.len() == 9296 {
-        plain::clear(acc);
-        Started {
-            refusal: 0,
-            sync: s,
-        }
-    } else {
-        Started {
-            refusal: 1,
-            sync: s,
-        }
+    if acc.len() != 9296 {
+        return Err(Refusal::Stores);
     }
+    plain::clear(acc);
+    Ok(plain::started(at, None))
 }
 
 // One symbol.
-pub fn push(s: SlotSync, i: i16, q: i16, f: [i8; 48], w: [i8; 48], acc: &mut [u32]) -> Pushed
+pub fn push(
+    s: SlotSync,
+    i: i16,
+    q: i16,
+    f: [i8; 48],
+    w: [i8; 48],
+    acc: &mut [u32],
+) -> Result<Pushed, Refused<SlotSync>>
     ensures { (result ≡ push_answer s i q f w acc.old) × (acc.new ≡ push_acc s i q f w acc.old) }
 {
-    let r = s.run;
-    let n = plain::push_refusal(acc.len(), &f, &w, r);
-    if n == 0 {
-        ranged::accepted(s, i, q, &f, &w, acc)
-    } else {
-        refusals::refused(n, s)
+    match refusals::push_refusal(acc.len(), &f, &w, s.run) {
+        Ok(()) => Ok(ranged::accepted(s, i, q, &f, &w, acc)),
+        Err(why) => Err(Refused { why, state: s }),
     }
 }
 
 // The sync started anew at a position, not before the next symbol's, with the last frame record.
-pub fn restart(s: SlotSync, at: u64, acc: &mut [u32]) -> Started
+pub fn restart(s: SlotSync, at: u64, acc: &mut [u32]) -> Result<SlotSync, Refused<SlotSync>>
     ensures { (result ≡ restart_answer s at acc.old) × (acc.new ≡ restart_acc s at acc.old) }
 {
-    let r = s.run;
-    let n = refusals::restart_refusal(acc.len(), at, r);
-    if n == 0 {
-        plain::clear(acc);
-        let c = r.course;
-        let f = c.last;
-        Started {
-            refusal: 0,
-            sync: plain::started(at, f),
+    match refusals::restart_refusal(acc.len(), at, s.run) {
+        Ok(()) => {
+            plain::clear(acc);
+            Ok(plain::started(at, s.run.course.last))
         }
-    } else {
-        Started {
-            refusal: n,
-            sync: s,
-        }
+        Err(why) => Err(Refused { why, state: s }),
     }
 }

@@ -1,49 +1,28 @@
 // What the crates above share and needs nothing of its caller.
+#![tactic(auto, unfolding(crate::specs::Sync::started_sync, crate::specs::Sync::no_window, crate::specs::Sync::kept_window))]
+
 ghost use Rattle.std.specs.Prelude.{◌≡◌, true, ◌+◌, ◌<◌, ◌^◌, leb, ltb, length, replicate};
 ghost use Rattle.sync.specs.Sync.{started_sync, kept_window};
-ghost use Rattle.sync.specs.Answers.{push_refusal};
 
 use crate::SlotSync;
-use sync_heads::Record;
-use sync_step::{Run, Stores};
+use sync_heads::FrameHead;
+use sync_step::Stores;
 
 // A sync that starts at a position with this frame record.
-pub fn started(at: u64, last: Record) -> SlotSync
+pub fn started(at: u64, last: Option<FrameHead>) -> SlotSync
     ensures { result ≡ started_sync at last }
 {
-    let r = sync_step::plain::started(at, last);
     SlotSync {
         win: [0i16; 48],
-        run: r,
-    }
-}
-
-// 0, or why a symbol is not taken: in the order of document 01's table.
-pub(crate) fn push_refusal(len: usize, f: &[i8; 48], w: &[i8; 48], r: Run) -> u8
-    ensures { result ≡ push_refusal len f.now w.now r }
-{
-    if len == 9296 {
-        if sync_corr::plain::ones(f) & sync_corr::plain::ones(w) {
-            if sync_step::plain::in_range(r) {
-                if past_end(r.base, r.t) { 7 } else { 0 }
-            } else {
-                6
-            }
-        } else {
-            2
-        }
-    } else {
-        1
+        run: sync_step::plain::started(at, last),
     }
 }
 
 pub fn clear(acc: &mut [u32])
     ensures { acc.new ≡ replicate (length acc.old) 0 }
 {
-    let mut i: usize = 0;
-    while i < acc.len() {
+    for i in 0..acc.len() {
         acc[i] = 0;
-        i += 1;
     }
 }
 

@@ -13,10 +13,8 @@ pub fn shift(win: &mut [i16; 48], i: i16, q: i16)
     requires { length win.old ≡ 48 }
     ensures { win.new ≡ window_after win.old i q }
 {
-    let mut k: usize = 0;
-    while k < 46 {
+    for k in 0..46 {
         win[k] = win[k + 2];
-        k += 1;
     }
     win[46] = i;
     win[47] = q;
@@ -41,17 +39,14 @@ pub(crate) fn accepted(
     let b = sync_corr::ranged::dots(&win, &rows);
     let p = sync_step::plain::place(r.t);
     let x = sync_step::ranged::step(r, b, acc[p]);
-    let n = x.run;
-    let k = x.stores;
-    let l = x.last;
-    let es = x.events;
-    store(k, p, acc);
-    let v = crate::plain::kept_window(k, win);
+    store(x.stores, p, acc);
     Pushed {
-        refusal: 0,
-        sync: SlotSync { win: v, run: n },
-        last: l,
-        events: es,
+        sync: SlotSync {
+            win: crate::plain::kept_window(x.stores, win),
+            run: x.run,
+        },
+        last: x.last,
+        events: x.events,
     }
 }
 

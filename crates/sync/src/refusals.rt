@@ -1,44 +1,42 @@
-// Why a restart is refused, and what a refused symbol answers.
+// Why a symbol or a restart is not taken: in the order of document 01's table.
+#![tactic(auto, using(laws::specs::Choice::cases), unfolding(crate::specs::Answers::push_refusal, crate::specs::Answers::restart_refusal))]
+
 ghost use Rattle.std.specs.Prelude.{◌≡◌};
-ghost use Rattle.sync.specs.Answers.{restart_refusal, refused_push};
+ghost use Rattle.sync.specs.Answers.{push_refusal, restart_refusal};
 
-use crate::{Pushed, SlotSync, plain};
-use sync_corr::{Both, Corr};
-use sync_step::{Event, Events, LastCorr, Run};
+use crate::plain;
+use refusal::Refusal;
+use sync_step::Run;
 
-// 0, or why a restart is not taken.
-pub(crate) fn restart_refusal(len: usize, at: u64, r: Run) -> u8
-    ensures { result ≡ restart_refusal len at r }
+pub(crate) fn push_refusal(len: usize, f: &[i8; 48], w: &[i8; 48], r: Run) -> Result<(), Refusal>
+    ensures { result ≡ push_refusal len f.now w.now r }
 {
-    if len == 9296 {
-        if sync_step::plain::in_range(r) {
-            if plain::before(at, r.base, r.t) { 7 } else { 0 }
-        } else {
-            6
-        }
-    } else {
-        1
+    if len != 9296 {
+        return Err(Refusal::Stores);
     }
+    if !(sync_corr::plain::ones(f) & sync_corr::plain::ones(w)) {
+        return Err(Refusal::Words);
+    }
+    if !sync_step::plain::in_range(r) {
+        return Err(Refusal::Arithmetic);
+    }
+    if plain::past_end(r.base, r.t) {
+        return Err(Refusal::Position);
+    }
+    Ok(())
 }
 
-// The state as it was handed in, and nothing told.
-pub(crate) fn refused(n: u8, s: SlotSync) -> Pushed
-    ensures { result ≡ refused_push n s }
+pub(crate) fn restart_refusal(len: usize, at: u64, r: Run) -> Result<(), Refusal>
+    ensures { result ≡ restart_refusal len at r }
 {
-    Pushed {
-        refusal: n,
-        sync: s,
-        last: LastCorr {
-            both: Both {
-                f: Corr { re: 0, im: 0 },
-                s: Corr { re: 0, im: 0 },
-            },
-            level: 0,
-        },
-        events: Events {
-            first: Event::Nothing,
-            second: Event::Nothing,
-            third: Event::Nothing,
-        },
+    if len != 9296 {
+        return Err(Refusal::Stores);
     }
+    if !sync_step::plain::in_range(r) {
+        return Err(Refusal::Arithmetic);
+    }
+    if plain::before(at, r.base, r.t) {
+        return Err(Refusal::Position);
+    }
+    Ok(())
 }

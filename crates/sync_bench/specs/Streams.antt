@@ -1,9 +1,14 @@
 -- Symbols one after another on a new sync at position 0.
-use Rattle.std.specs.Prelude.{ℕ, zero, suc, ◌+◌, ◌*◌, ◌/◌, List, ℤ, length}
+use Rattle.std.specs.Prelude.{ℕ, zero, suc, ◌+◌, ◌*◌, ◌/◌, List, ℤ, length, None, Result, Ok, Err}
+use Rattle.refusal.specs.Refusals.{code_of, number_of}
+use Rattle.refusal.specs.declared.Refused.{Refused}
 use Rattle.sync_corr.specs.Correlate.{at}
 use Rattle.sync.specs.declared.SlotSync.{SlotSync}
+use Rattle.sync.specs.declared.Pushed.{Pushed}
 use Rattle.sync.specs.Answers.{new_answer, new_acc, push_answer, push_acc}
+use Rattle.sync.specs.Sync.{started_sync}
 use Rattle.sync_bench.specs.declared.Streamed.{Streamed}
+use Rattle.sync_bench.specs.declared.Left.{Left}
 
 -- a sync with its accumulators, the symbols taken, the last accumulator and refusal
 pub record Flow : Type 0 where
@@ -17,15 +22,20 @@ abbrev pub flow : SlotSync → ℕ → ℕ → ℕ → List ℕ → Flow
 flow s k l n a = record { sync = s; taken = k; level = l; refusal = n; acc = a }
 
 unfoldable pub new_flow : List ℕ → Flow
-new_flow acc = flow (new_answer 0 acc).sync 0 0 (new_answer 0 acc).refusal (new_acc acc)
+new_flow acc = flow (started_sync 0 None) 0 0 (code_of (new_answer 0 acc)) (new_acc acc)
 
 abbrev pub streamed : Flow → Streamed
 streamed x = record { taken = x.taken; level = x.level; refusal = x.refusal }
 
+-- what a symbol leaves; one that is refused leaves the sync as it was, and tells no accumulator
+unfoldable pub left_of : Result Pushed (Refused SlotSync) → Left
+left_of (Ok p) = record { sync = p.sync; level = p.last.level; refusal = 0 }
+left_of (Err r) = record { sync = r.state; level = 0; refusal = number_of r.why }
+
 unfoldable pub push_one : List ℤ → List ℤ → List ℤ → ℕ → Flow → Flow
 push_one sy f w k x =
-    let a = push_answer x.sync (at sy (2 * k)) (at sy (2 * k + 1)) f w x.acc in
-    flow a.sync (suc k) a.last.level a.refusal (push_acc x.sync (at sy (2 * k)) (at sy (2 * k + 1)) f w x.acc)
+    let a = left_of (push_answer x.sync (at sy (2 * k)) (at sy (2 * k + 1)) f w x.acc) in
+    flow a.sync (suc k) a.level a.refusal (push_acc x.sync (at sy (2 * k)) (at sy (2 * k + 1)) f w x.acc)
 
 unfoldable pub push_many : List ℤ → List ℤ → List ℤ → ℕ → Flow → Flow
 push_many sy f w zero x = x

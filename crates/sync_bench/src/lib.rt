@@ -3,7 +3,10 @@
 #![tactic(auto)]
 
 ghost use Rattle.std.specs.Prelude.{◌≡◌};
-ghost use Rattle.sync_bench.specs.Streams.{pushed_stream, pushed_acc};
+ghost use Rattle.sync_bench.specs.Streams.{left_of, pushed_stream, pushed_acc};
+
+use refusal::Refused;
+use sync::{Pushed, SlotSync};
 
 #[repr(C)]
 #[derive(Clone, Copy)]
@@ -21,30 +24,49 @@ pub struct Streamed {
     pub refusal: u8,
 }
 
-// A new sync takes a stream symbol by symbol.
+// What a symbol leaves: the sync, the accumulator at its position, and the refusal, 0 if it was taken.
+#[derive(Clone, Copy)]
+struct Left {
+    sync: SlotSync,
+    level: u32,
+    refusal: u8,
+}
+
+#[tactic(auto, unfolding(crate::specs::Streams::left_of))]
+fn left_by(answer: Result<Pushed, Refused<SlotSync>>) -> Left
+    ensures { result ≡ left_of answer }
+{
+    match answer {
+        Ok(p) => Left {
+            sync: p.sync,
+            level: p.last.level,
+            refusal: 0,
+        },
+        Err(r) => Left {
+            sync: r.state,
+            level: 0,
+            refusal: r.why.number(),
+        },
+    }
+}
+
+// A new sync takes a stream symbol by symbol. Accumulators that `new` refuses, each symbol refuses too.
 #[unsafe(no_mangle)]
 pub extern "C" fn measure_push(sy: &[i16], words: Words, acc: &mut [u32]) -> Streamed
     ensures { (result ≡ pushed_stream sy.now words.f words.w acc.old) × (acc.new ≡ pushed_acc sy.now words.f words.w acc.old) }
 {
-    let n = sync::new(0, acc);
-    let f = words.f;
-    let w = words.w;
-    let mut s = n.sync;
-    let mut level: u32 = 0;
-    let mut refusal = n.refusal;
+    let mut t = Left {
+        sync: sync::plain::started(0, None),
+        level: 0,
+        refusal: refusal::code(&sync::new(0, acc)),
+    };
     let m = sy.len() / 2;
-    let mut k: usize = 0;
-    while k < m {
-        let r = sync::push(s, sy[2 * k], sy[2 * k + 1], f, w, acc);
-        let z = r.sync;
-        s = z;
-        level = r.last.level;
-        refusal = r.refusal;
-        k += 1;
+    for k in 0..m {
+        t = left_by(sync::push(t.sync, sy[2 * k], sy[2 * k + 1], words.f, words.w, acc));
     }
     Streamed {
         taken: m,
-        level: level,
-        refusal: refusal,
+        level: t.level,
+        refusal: t.refusal,
     }
 }

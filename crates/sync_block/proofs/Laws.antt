@@ -1,4 +1,5 @@
 -- A quiet symbol changes window, figures and one accumulator; how far a run stays quiet. Assumes nothing.
+use Rattle.std.specs.Prelude.{None}
 use Prim.Native.Nat.{◌+◌, ◌-◌, ◌<◌, ◌^◌, ◌≤◌, suc, ℕ}
 use Rattle.laws.proofs.Tests.{and_both, by_test}
 use Rattle.laws.specs.Choice.{if_no, if_yes}
@@ -29,11 +30,10 @@ use mathlib.Core.Path.{◌∙◌, ◌≡◌, refl}
 use native.Mathlib.Nat.{mod-lt}
 use native.Mathlib.Omega.{arith}
 use Rattle.sync_step.specs.Step.{taken_of as step_taken}
-use Rattle.sync_heads.specs.declared.Headed.TheVariants.{Nothing as NoHead}
 
 -- ---- one quiet symbol
 abbrev pub silent : Run → Taken
-silent r = record { lost = false; stage = r.stage; course = r.course; first = NoHead; second = NoHead }
+silent r = record { lost = false; stage = r.stage; course = r.course; first = None; second = None }
 
 taken_quiet : (n : ℕ) (r : Run) (p : ℕ) (b : Both) → locked_at r.lock p ≡ false → step_taken n r p b ≡ silent r
 unfolding step_taken

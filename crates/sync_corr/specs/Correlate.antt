@@ -1,11 +1,11 @@
 -- Correlation: document 01, "Position n correlates symbols n to n+23 with both words; its size is the larger `mag_approx`."
-use Rattle.std.specs.Prelude.{ℕ, zero, suc, ◌+◌, ◌*◌, max, Bool, true, ◌&&◌, List, eqb, ℤ, pos, nat_abs, ◌+ℤ◌, ◌-ℤ◌, ◌*ℤ◌, get_or}
+use Rattle.refusal.specs.declared.Refusal.{Refusal}
+use Rattle.refusal.specs.declared.Refusal.TheVariants.{Words}
+use Rattle.std.specs.Prelude.{ℕ, zero, suc, ◌+◌, ◌*◌, max, Bool, true, ◌&&◌, List, eqb, ℤ, pos, nat_abs, ◌+ℤ◌, ◌-ℤ◌, ◌*ℤ◌, get_or, Result, Ok, Err}
 use Rattle.laws.specs.Choice.{when◌then◌else◌}
 use Rattle.fx.specs.Fx.{mag_approx}
 use Rattle.sync_corr.specs.declared.Corr.{Corr}
 use Rattle.sync_corr.specs.declared.Both.{Both}
-use Rattle.sync_corr.specs.declared.Correlated.{Correlated}
-use Rattle.sync_corr.specs.declared.Correlated.TheVariants.{Value, Refused}
 
 -- number j of a list of pairs: I of pair k at 2k, Q at 2k + 1
 unfoldable pub at : List ℤ → ℕ → ℤ
@@ -41,5 +41,5 @@ ones_to w (suc n) = ones_to w n && eqb (nat_abs (at w n)) 1
 unfoldable pub ones_of : List ℤ → Bool
 ones_of w = ones_to w 48
 
-unfoldable pub correlate_answer : List ℤ → List ℤ → Correlated
-correlate_answer r w = when ones_of w then Value (corr r w) else Refused 2
+unfoldable pub correlate_answer : List ℤ → List ℤ → Result Corr Refusal
+correlate_answer r w = when ones_of w then Ok (corr r w) else Err Words

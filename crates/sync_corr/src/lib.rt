@@ -8,6 +8,8 @@ mod rows;
 ghost use Rattle.std.specs.Prelude.{◌≡◌};
 ghost use Rattle.sync_corr.specs.Correlate.{correlate_answer};
 
+use refusal::Refusal;
+
 #[derive(Clone, Copy)]
 pub struct Corr {
     pub re: i32,
@@ -21,21 +23,11 @@ pub struct Both {
     pub s: Corr,
 }
 
-#[derive(Clone, Copy)]
-pub enum Correlated {
-    Value(Corr),
-    Refused(u8),
-}
-
-pub fn correlate(r: [i16; 48], w: [i8; 48]) -> Correlated
+pub fn correlate(r: [i16; 48], w: [i8; 48]) -> Result<Corr, Refusal>
     ensures { result ≡ correlate_answer r w }
 {
-    if plain::ones(&w) {
-        let rows = plain::rows(&w, &w);
-        let b = ranged::dots(&r, &rows);
-        let c = b.f;
-        Correlated::Value(c)
-    } else {
-        Correlated::Refused(2)
+    if !plain::ones(&w) {
+        return Err(Refusal::Words);
     }
+    Ok(ranged::dots(&r, &plain::rows(&w, &w)).f)
 }

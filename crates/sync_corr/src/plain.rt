@@ -10,11 +10,9 @@ pub fn ones(w: &[i8; 48]) -> bool
     ensures { result ≡ ones_of w.now }
 {
     let mut all = true;
-    let mut k: usize = 0;
-    while k < 48 {
+    for k in 0..48 {
         let v = w[k];
         all = all & ((v == 1) | (v == -1));
-        k += 1;
     }
     all
 }
@@ -24,10 +22,8 @@ pub fn rows(f: &[i8; 48], s: &[i8; 48]) -> [i16; 192]
     ensures { result ≡ rows_of f.now s.now }
 {
     let mut r = [0i16; 192];
-    let mut j: usize = 0;
-    while j < 192 {
+    for j in 0..192 {
         r[j] = rows::row_at(f, s, j);
-        j += 1;
     }
     r
 }

@@ -13,14 +13,12 @@ pub fn dots(win: &[i16; 48], rows: &[i16; 192]) -> Both
     let mut fi: i32 = 0;
     let mut sr: i32 = 0;
     let mut si: i32 = 0;
-    let mut k: usize = 0;
-    while k < 48 {
+    for k in 0..48 {
         let x = win[k];
         fr = rows::added(fr, x, rows[k]);
         fi = rows::added(fi, x, rows[48 + k]);
         sr = rows::added(sr, x, rows[96 + k]);
         si = rows::added(si, x, rows[144 + k]);
-        k += 1;
     }
     Both {
         f: Corr { re: fr, im: fi },

@@ -1,6 +1,9 @@
 -- Small numbers as the code holds them; what the ranges give; and what one reading leaves: stage and course stay ready and in range, and the
 -- record of the last frame head is the one before or is made at the reading. Assumes nothing.
-use Rattle.std.proofs.Common.{◌≡◌, ℕ, ◌+◌, ◌-◌, ◌^◌, ◌≤◌, Bool, true, false, ◌&&◌, ltb, leb, ℤ, pos, ◌+ℤ◌, ◌-ℤ◌, nat_abs, sym, refl, ◌∙◌, le_refl, arith, w32, w64, to_z, of_z, ltb-true, le-leb, leb-true}
+use Rattle.sync_heads.specs.Numbers.{last_head}
+use Rattle.sync_heads.specs.declared.FrameHead.{FrameHead}
+use Rattle.sync_heads.specs.declared.SlotNumber.{SlotNumber}
+use Rattle.std.proofs.Common.{◌≡◌, ℕ, ◌+◌, ◌-◌, ◌^◌, ◌≤◌, Bool, true, false, ◌&&◌, ltb, leb, ℤ, pos, ◌+ℤ◌, ◌-ℤ◌, nat_abs, sym, refl, ◌∙◌, le_refl, arith, w32, w64, to_z, of_z, ltb-true, le-leb, leb-true, Option, None, Some}
 use Rattle.laws.proofs.Linear.{dif_ud, size_le, size_ud, sum_ud, test_lt}
 use Rattle.laws.proofs.Size.{Num, abs_neg, at, num}
 use Rattle.laws.proofs.Tests.{and_both, if_both, if_either, never}
@@ -16,11 +19,7 @@ use Rattle.sync_heads.specs.declared.Course.{Course}
 use Rattle.sync_heads.specs.declared.Marked.{Marked}
 use Rattle.sync_heads.specs.declared.Parity.{Parity}
 use Rattle.sync_heads.specs.declared.Reading.{Reading}
-use Rattle.sync_heads.specs.declared.Record.TheVariants.{Last}
-use Rattle.sync_heads.specs.declared.Record.{Record}
 use Rattle.sync_heads.specs.declared.Said.{Said}
-use Rattle.sync_heads.specs.declared.Slot.TheVariants.{In, Unknown}
-use Rattle.sync_heads.specs.declared.Slot.{Slot}
 use Rattle.sync_heads.specs.declared.Stage.TheVariants.{Before, First, Known}
 use Rattle.sync_heads.specs.declared.Stage.{Stage}
 use Rattle.sync_heads.specs.declared.Taken.{Taken}
@@ -66,10 +65,10 @@ stage_ready Before e = tt
 stage_ready (First z) e = reading_ready z e
 stage_ready (Known p) e = record { last = corr_ready p.last e }
 
-slot_ready : (s : Slot) → slot_in_range s ≡ true → SlotOk s
+slot_ready : (s : Option SlotNumber) → slot_in_range s ≡ true → SlotOk s
 unfolding slot_in_range
-slot_ready Unknown e = tt
-slot_ready (In number frame) e = omega (arith, leb-true number 119 e)
+slot_ready None e = tt
+slot_ready (Some s) e = omega (arith, leb-true s.number 119 e)
 
 pub course_ready : (c : Course) → course_in_range c ≡ true → CourseOk c
 unfolding course_in_range
@@ -80,10 +79,10 @@ course_ready c e =
     record { majority = leb-true (nat_abs c.majority) 8 m.0; slot = slot_ready c.slot m.1; misses = omega (arith, leb-true c.misses 1 h.1) }
 
 -- .. and back: what is ready, with a record in range, is in range
-slot_range : (s : Slot) → SlotOk s → slot_in_range s ≡ true
+slot_range : (s : Option SlotNumber) → SlotOk s → slot_in_range s ≡ true
 unfolding slot_in_range
-slot_range Unknown h = refl
-slot_range (In number frame) h = le-leb number 119 (omega arith)
+slot_range None h = refl
+slot_range (Some s) h = le-leb s.number 119 (omega arith)
 
 pub course_range : (c : Course) → CourseOk c → record_in_range c.last ≡ true → course_in_range c ≡ true
 unfolding course_in_range
@@ -101,10 +100,10 @@ said_small ssync b last h =
     (if_both (λ (w : Said). Small w.corr) _ _ _ (negated_small b.f h.f) h.f)
 
 -- ---- the course
-pub next_slot_ready : (s : Slot) → SlotOk s → SlotOk (next_slot s)
+pub next_slot_ready : (s : Option SlotNumber) → SlotOk s → SlotOk (next_slot s)
 unfolding next_slot
-next_slot_ready Unknown h = tt
-next_slot_ready (In number frame) h = omega arith
+next_slot_ready None h = tt
+next_slot_ready (Some s) h = omega arith
 
 swayed_small : (positive : Bool) (m : ℤ) → nat_abs m ≤ 8 → nat_abs (swayed_of positive m) ≤ 8
 unfolding swayed_of
@@ -249,22 +248,22 @@ read_lost n (First z) c r e = first_lost n z c r e
 read_lost n (Known p) c r e = known_lost n p c r e
 
 -- what holds of the record before, and of one made at the reading, holds of the record after
-framed_record : (P : Record → Type 0) (n : ℕ) (c : Course) (at : ℕ) → ((f : ℕ) → P (Last at f)) → P (framed_of n c at).last
+framed_record : (P : Option FrameHead → Type 0) (n : ℕ) (c : Course) (at : ℕ) → ((f : ℕ) → P (last_head at f)) → P (framed_of n c at).last
 unfolding framed_of
 framed_record P n c at q = q (frame_of n at c.last)
 
-course_record : (P : Record → Type 0) (n : ℕ) (positive : Bool) (c : Course) (at : ℕ) → P c.last → ((f : ℕ) → P (Last at f)) → P (fsync_course n positive c at).course.last
+course_record : (P : Option FrameHead → Type 0) (n : ℕ) (positive : Bool) (c : Course) (at : ℕ) → P c.last → ((f : ℕ) → P (last_head at f)) → P (fsync_course n positive c at).course.last
 unfolding fsync_course due_of elsewhere_of
 course_record P n positive c at p q =
     if_both (λ (m : Marked). P m.course.last) _ _ _
     (if_both (λ (m : Marked). P m.course.last) _ _ _ (framed_record P n _ at q) (if_both (λ (m : Marked). P m.course.last) _ _ _ (framed_record P n _ at q) p))
     (if_both (λ (d : Course). P d.last) _ _ _ (if_both (λ (d : Course). P d.last) _ _ _ (framed_record P n _ at q) p) p)
 
-fsync_record : (P : Record → Type 0) (n : ℕ) (c : Course) (r : Reading) (last : Corr) → P c.last → ((f : ℕ) → P (Last r.at f)) → P (fsync_of n c r last).course.last
+fsync_record : (P : Option FrameHead → Type 0) (n : ℕ) (c : Course) (r : Reading) (last : Corr) → P c.last → ((f : ℕ) → P (last_head r.at f)) → P (fsync_of n c r last).course.last
 unfolding fsync_of
 fsync_record P n c r last p q = let k = course_record P n _ c r.at p q in if_both (λ (t : Told). P t.course.last) _ _ _ k k
 
-pub read_record : (P : Record → Type 0) (n : ℕ) (k : Stage) (c : Course) (r : Reading) → P c.last → ((f : ℕ) → P (Last r.at f)) → P (read_of n k c r).course.last
+pub read_record : (P : Option FrameHead → Type 0) (n : ℕ) (k : Stage) (c : Course) (r : Reading) → P c.last → ((f : ℕ) → P (last_head r.at f)) → P (read_of n k c r).course.last
 unfolding read_of first_of known_of both_heads ssync_taken fsync_taken ssync_of
 read_record P n Before c r p q = p
 read_record P n (First z) c r p q = if_both (λ (t : Taken). P t.course.last) _ _ _ p (fsync_record P n _ r _ p q)

@@ -1,10 +1,9 @@
 -- Majority, marks, slot and frame numbers.
-use Rattle.std.specs.Prelude.{ℕ, ◌+◌, ◌-◌, ◌*◌, ◌/◌, ◌%◌, ◌^◌, min, max, Bool, true, false, ℤ, pos, ◌+ℤ◌, ◌-ℤ◌, ◌==◌, int_lt, nat_lt}
+use Rattle.sync_heads.specs.Numbers.{slot_in, last_head}
+use Rattle.sync_heads.specs.declared.FrameHead.{FrameHead}
+use Rattle.sync_heads.specs.declared.SlotNumber.{SlotNumber}
+use Rattle.std.specs.Prelude.{ℕ, ◌+◌, ◌-◌, ◌*◌, ◌/◌, ◌%◌, ◌^◌, min, max, Bool, true, false, ℤ, pos, ◌+ℤ◌, ◌-ℤ◌, ◌==◌, int_lt, nat_lt, Option, None, Some}
 use Rattle.laws.specs.Choice.{when◌then◌else◌, minus}
-use Rattle.sync_heads.specs.declared.Slot.{Slot}
-use Rattle.sync_heads.specs.declared.Slot.TheVariants.{Unknown, In}
-use Rattle.sync_heads.specs.declared.Record.{Record}
-use Rattle.sync_heads.specs.declared.Record.TheVariants.{Never, Last}
 use Rattle.sync_heads.specs.declared.Course.{Course}
 use Rattle.sync_heads.specs.declared.Marked.{Marked}
 
@@ -20,18 +19,18 @@ swayed_of positive m =
     else when int_lt (minus 8) m then m -ℤ pos 1 else minus 8
 
 -- a frame has 120 slots
-unfoldable pub next_slot : Slot → Slot
-next_slot Unknown = Unknown
-next_slot (In number frame) = In ((number + 1) % 120) frame
+unfoldable pub next_slot : Option SlotNumber → Option SlotNumber
+next_slot None = None
+next_slot (Some s) = slot_in ((s.number + 1) % 120) s.frame
 
-unfoldable pub unknown_slot : Slot → Bool
-unknown_slot Unknown = true
-unknown_slot (In number frame) = false
+unfoldable pub unknown_slot : Option SlotNumber → Bool
+unknown_slot None = true
+unknown_slot (Some s) = false
 
 -- a frame head is expected at slot 0
-unfoldable pub frame_due : Slot → Bool
-frame_due Unknown = false
-frame_due (In number frame) = number == 0
+unfoldable pub frame_due : Option SlotNumber → Bool
+frame_due None = false
+frame_due (Some s) = s.number == 0
 
 -- whole frames since the last frame head, to the nearest, at least 1 and at most 2^32 - 1; "a frame record later than the head counts as gap
 -- 0, which `new_frame` raises to 1"
@@ -39,15 +38,15 @@ unfoldable pub gap_of : ℕ → ℕ → ℕ → ℕ
 gap_of n at last = min (2 ^ 32 - 1) (max 1 ((at - last + 60 * n) / (120 * n)))
 
 -- "Frame numbers are u32 and wrap."
-unfoldable pub frame_of : ℕ → ℕ → Record → ℕ
-frame_of n at Never = 0
-frame_of n at (Last last frame) = (frame + gap_of n at last) % 2 ^ 32
+unfoldable pub frame_of : ℕ → ℕ → Option FrameHead → ℕ
+frame_of n at None = 0
+frame_of n at (Some s) = (s.frame + gap_of n at s.at) % 2 ^ 32
 
 -- a frame begins
 unfoldable pub framed_of : ℕ → Course → ℕ → Course
 framed_of n c at =
     let f = frame_of n at c.last in
-    record { majority = c.majority; slot = In 0 f; last = Last at f; misses = c.misses; stray = c.stray; missed = c.missed }
+    record { majority = c.majority; slot = slot_in 0 f; last = last_head at f; misses = c.misses; stray = c.stray; missed = c.missed }
 
 -- "the two marker counters stay at 2^32 - 1"
 unfoldable pub tick_of : ℕ → ℕ
@@ -60,7 +59,7 @@ with_misses c misses missed = record { majority = c.majority; slot = c.slot; las
 abbrev pub with_stray : Course → ℕ → Course
 with_stray c stray = record { majority = c.majority; slot = c.slot; last = c.last; misses = c.misses; stray = stray; missed = c.missed }
 
-abbrev pub with_sign : Course → ℤ → Slot → Course
+abbrev pub with_sign : Course → ℤ → Option SlotNumber → Course
 with_sign c majority slot = record { majority = majority; slot = slot; last = c.last; misses = c.misses; stray = c.stray; missed = c.missed }
 
 -- at an expected frame head: a mark ends the misses; the first miss begins a frame too; "two missed markers in a row lose"

@@ -1,5 +1,6 @@
 -- What a reading comes to.
-use Rattle.std.specs.Prelude.{ℕ, Bool, true, false, int_lt}
+use Rattle.sync_heads.specs.declared.SlotNumber.{SlotNumber}
+use Rattle.std.specs.Prelude.{ℕ, Bool, true, false, int_lt, None, Some, Option}
 use Rattle.laws.specs.Choice.{when◌then◌else◌}
 use Rattle.fx.specs.Cordic.{cordic_of}
 use Rattle.sync_corr.specs.declared.Corr.{Corr}
@@ -9,18 +10,16 @@ use Rattle.sync_heads.specs.declared.Reading.{Reading}
 use Rattle.sync_heads.specs.declared.Parity.{Parity}
 use Rattle.sync_heads.specs.declared.Stage.{Stage}
 use Rattle.sync_heads.specs.declared.Stage.TheVariants.{Before, First, Known}
-use Rattle.sync_heads.specs.declared.Slot.{Slot}
 use Rattle.sync_heads.specs.declared.Course.{Course}
 use Rattle.sync_heads.specs.declared.Word.{Word}
 use Rattle.sync_heads.specs.declared.Word.TheVariants.{Ssync, Fsync, NotFsync}
 use Rattle.sync_heads.specs.declared.Said.{Said}
 use Rattle.sync_heads.specs.declared.Head.{Head}
-use Rattle.sync_heads.specs.declared.Headed.TheVariants.{Nothing, One}
 use Rattle.sync_heads.specs.declared.Told.{Told}
 use Rattle.sync_heads.specs.declared.Taken.{Taken}
 
 -- a head as told: angle and size are the CORDIC's
-unfoldable pub head_of : Said → ℕ → Slot → Head
+unfoldable pub head_of : Said → ℕ → Option SlotNumber → Head
 head_of w at slot =
     let p = cordic_of w.corr.re w.corr.im in
     record { at = at; word = w.word; corr = w.corr; theta = p.angle; amp = p.size; slot = slot; nco_phase = 0 }
@@ -34,7 +33,7 @@ is_fsync NotFsync = false
 unfoldable pub ssync_of : Course → Reading → Told
 ssync_of c r =
     let slot = next_slot c.slot in
-    record { lost = false; course = with_sign c c.majority slot; head = One (head_of (said_of true r.both r.both.s) r.at slot) }
+    record { lost = false; course = with_sign c c.majority slot; head = Some (head_of (said_of true r.both r.both.s) r.at slot) }
 
 -- an F head, read against the last Ssync head; the head that loses is not told
 unfoldable pub fsync_of : ℕ → Course → Reading → Corr → Told
@@ -42,8 +41,8 @@ fsync_of n c r last =
     let w = said_of false r.both last in
     let m = fsync_course n (is_fsync w.word) c r.at in
     when m.lost
-    then record { lost = true; course = m.course; head = Nothing }
-    else record { lost = false; course = m.course; head = One (head_of w r.at m.course.slot) }
+    then record { lost = true; course = m.course; head = None }
+    else record { lost = false; course = m.course; head = Some (head_of w r.at m.course.slot) }
 
 -- what a reading with Ssync, or with an F word, comes to; `odd` tells which heads carry Ssync
 unfoldable pub ssync_taken : Bool → Course → Reading → Taken
@@ -54,7 +53,7 @@ ssync_taken odd c r =
       stage = Known (record { odd = odd; due = false; last = r.both.s });
       course = t.course;
       first = t.head;
-      second = Nothing;
+      second = None;
     }
 
 unfoldable pub fsync_taken : ℕ → Bool → Corr → Course → Reading → Taken
@@ -65,7 +64,7 @@ fsync_taken n odd last c r =
       stage = Known (record { odd = odd; due = true; last = last });
       course = t.course;
       first = t.head;
-      second = Nothing;
+      second = None;
     }
 
 -- once the parity is known, they take turns
@@ -85,6 +84,6 @@ first_of n z c r = when int_lt (margin_of z.both) (margin_of r.both) then ssync_
 
 -- "head zero .. waits for head one"
 unfoldable pub read_of : ℕ → Stage → Course → Reading → Taken
-read_of n Before c r = record { lost = false; stage = First r; course = c; first = Nothing; second = Nothing }
+read_of n Before c r = record { lost = false; stage = First r; course = c; first = None; second = None }
 read_of n (First z) c r = first_of n z c r
 read_of n (Known p) c r = known_of n p c r

@@ -1,14 +1,12 @@
 -- The ranges of docs/RANGES.md, "Slot sync", for stage and course. Symbols are of 16 bits.
-use Rattle.std.specs.Prelude.{◌-◌, ◌^◌, Bool, true, ◌&&◌, nat_le, unsigned_abs}
+use Rattle.sync_heads.specs.declared.FrameHead.{FrameHead}
+use Rattle.sync_heads.specs.declared.SlotNumber.{SlotNumber}
+use Rattle.std.specs.Prelude.{◌-◌, ◌^◌, Bool, true, ◌&&◌, nat_le, unsigned_abs, Option, None, Some}
 use Rattle.sync_corr.specs.declared.Corr.{Corr}
 use Rattle.sync_corr.specs.declared.Both.{Both}
 use Rattle.sync_heads.specs.declared.Reading.{Reading}
 use Rattle.sync_heads.specs.declared.Stage.{Stage}
 use Rattle.sync_heads.specs.declared.Stage.TheVariants.{Before, First, Known}
-use Rattle.sync_heads.specs.declared.Slot.{Slot}
-use Rattle.sync_heads.specs.declared.Slot.TheVariants.{Unknown, In}
-use Rattle.sync_heads.specs.declared.Record.{Record}
-use Rattle.sync_heads.specs.declared.Record.TheVariants.{Never, Last}
 use Rattle.sync_heads.specs.declared.Course.{Course}
 
 -- a correlation part is a sum of 48 products
@@ -27,14 +25,14 @@ stage_in_range Before = true
 stage_in_range (First z) = reading_in_range z
 stage_in_range (Known p) = corr_in_range p.last
 
-unfoldable pub slot_in_range : Slot → Bool
-slot_in_range Unknown = true
-slot_in_range (In number frame) = nat_le number 119
+unfoldable pub slot_in_range : Option SlotNumber → Bool
+slot_in_range None = true
+slot_in_range (Some s) = nat_le s.number 119
 
 -- a frame head is head five at the earliest
-unfoldable pub record_in_range : Record → Bool
-record_in_range Never = true
-record_in_range (Last at frame) = nat_le 83664 at && nat_le at (2 ^ 62 - 24)
+unfoldable pub record_in_range : Option FrameHead → Bool
+record_in_range None = true
+record_in_range (Some s) = nat_le 83664 s.at && nat_le s.at (2 ^ 62 - 24)
 
 unfoldable pub course_in_range : Course → Bool
 course_in_range c = nat_le (unsigned_abs c.majority) 8 && slot_in_range c.slot && record_in_range c.last && nat_le c.misses 1

@@ -1,13 +1,12 @@
 -- What the functions need of their arguments; the ranges (Ranges.antt) imply it.
-use Rattle.std.specs.Prelude.{◌^◌, ◌<◌, ◌≤◌, unsigned_abs}
+use Rattle.sync_heads.specs.declared.SlotNumber.{SlotNumber}
+use Rattle.std.specs.Prelude.{◌^◌, ◌<◌, ◌≤◌, unsigned_abs, Option, None, Some}
 use Rattle.sync_corr.specs.declared.Corr.{Corr}
 use Rattle.sync_corr.specs.declared.Both.{Both}
 use Rattle.sync_heads.specs.declared.Reading.{Reading}
 use Rattle.sync_heads.specs.declared.Parity.{Parity}
 use Rattle.sync_heads.specs.declared.Stage.{Stage}
 use Rattle.sync_heads.specs.declared.Stage.TheVariants.{Before, First, Known}
-use Rattle.sync_heads.specs.declared.Slot.{Slot}
-use Rattle.sync_heads.specs.declared.Slot.TheVariants.{Unknown, In}
 use Rattle.sync_heads.specs.declared.Course.{Course}
 
 -- parts of a correlation of 24 symbols of 16 bits
@@ -31,9 +30,9 @@ StageOk Before = Unit {0}
 StageOk (First z) = ReadingOk z
 StageOk (Known p) = ParityOk p
 
-abbrev pub SlotOk : Slot → Type 0
-SlotOk Unknown = Unit {0}
-SlotOk (In number frame) = number < 120
+abbrev pub SlotOk : Option SlotNumber → Type 0
+SlotOk None = Unit {0}
+SlotOk (Some s) = s.number < 120
 
 pub record CourseOk (c : Course) : Type 0 where
   pub majority : unsigned_abs c.majority ≤ 8

@@ -1,9 +1,11 @@
 // Majority, marks, slot and frame numbers.
+#![tactic(auto, using(laws::specs::Choice::cases), unfolding(crate::specs::Frames::next_slot, crate::specs::Frames::unknown_slot, crate::specs::Frames::frame_due, crate::specs::Frames::frame_of, crate::specs::Frames::framed_of, crate::specs::Frames::tick_of, crate::specs::Frames::due_of, crate::specs::Frames::elsewhere_of))]
+
 ghost use Rattle.std.specs.Prelude.{◌≡◌, ◌^◌, ◌<◌, ◌≤◌, Bool, unsigned_abs};
 ghost use Rattle.sync_heads.specs.Frames.{marks_of, swayed_of, next_slot, unknown_slot, frame_due, gap_of, frame_of, framed_of, tick_of, due_of, elsewhere_of, fsync_course, with_sign};
 ghost use Rattle.sync_heads.specs.Ready.{SlotOk, CourseOk};
 
-use crate::{Course, Marked, Record, Slot};
+use crate::{Course, FrameHead, Marked, SlotNumber};
 
 // A sign against a majority of at least 2 is a mark.
 fn marks(positive: bool, majority: i32) -> bool
@@ -30,38 +32,35 @@ fn swayed(positive: bool, majority: i32) -> i32
     }
 }
 
-pub(crate) fn next_slot(s: Slot) -> Slot
+pub(crate) fn next_slot(s: Option<SlotNumber>) -> Option<SlotNumber>
     requires { SlotOk s }
     ensures { result ≡ next_slot s }
 {
     match s {
-        Slot::Unknown => Slot::Unknown,
-        Slot::In { number, frame } => Slot::In {
-            number: (number + 1) % 120,
-            frame: frame,
-        },
+        None => None,
+        Some(s) => Some(SlotNumber {
+            number: (s.number + 1) % 120,
+            ..s
+        }),
     }
 }
 
-fn unknown(s: Slot) -> bool
+fn unknown(s: Option<SlotNumber>) -> bool
     ensures { result ≡ unknown_slot s }
 {
     match s {
-        Slot::Unknown => true,
-        Slot::In {
-            number: _,
-            frame: _,
-        } => false,
+        None => true,
+        Some(_) => false,
     }
 }
 
 // Whether this slot begins a frame.
-fn begins(s: Slot) -> bool
+fn begins(s: Option<SlotNumber>) -> bool
     ensures { result ≡ frame_due s }
 {
     match s {
-        Slot::Unknown => false,
-        Slot::In { number, frame: _ } => number == 0,
+        None => false,
+        Some(s) => s.number == 0,
     }
 }
 
@@ -81,13 +80,13 @@ fn gap(at: u64, last: u64) -> u32
     }
 }
 
-fn frame(at: u64, r: Record) -> u32
+fn frame(at: u64, r: Option<FrameHead>) -> u32
     requires { at ≤ 2 ^ 62 }
     ensures { result ≡ frame_of 9296 at r }
 {
     match r {
-        Record::Never => 0,
-        Record::Last { at: last, frame: f } => std::num::wrapping_add_u32(f, gap(at, last)),
+        None => 0,
+        Some(l) => std::num::wrapping_add_u32(l.frame, gap(at, l.at)),
     }
 }
 
@@ -96,18 +95,11 @@ fn framed(c: Course, at: u64) -> Course
     requires { at ≤ 2 ^ 62 }
     ensures { result ≡ framed_of 9296 c at }
 {
-    let r = c.last;
-    let f = frame(at, r);
+    let frame = frame(at, c.last);
     Course {
-        majority: c.majority,
-        slot: Slot::In {
-            number: 0,
-            frame: f,
-        },
-        last: Record::Last { at: at, frame: f },
-        misses: c.misses,
-        stray: c.stray,
-        missed: c.missed,
+        slot: Some(SlotNumber { number: 0, frame }),
+        last: Some(FrameHead { at, frame }),
+        ..c
     }
 }
 
@@ -123,16 +115,17 @@ fn due(marked: bool, c: Course, at: u64) -> Marked
     requires { (at ≤ 2 ^ 62) × (c.misses < 2) }
     ensures { result ≡ due_of 9296 marked c at }
 {
-    let mut n = c;
     if marked {
-        n.misses = 0;
         Marked {
             lost: false,
-            course: framed(n, at),
+            course: framed(Course { misses: 0, ..c }, at),
         }
     } else if c.misses < 1 {
-        n.misses = c.misses + 1;
-        n.missed = tick(c.missed);
+        let n = Course {
+            misses: c.misses + 1,
+            missed: tick(c.missed),
+            ..c
+        };
         Marked {
             lost: false,
             course: framed(n, at),
@@ -146,17 +139,13 @@ fn due(marked: bool, c: Course, at: u64) -> Marked
 }
 
 // The course with another majority and slot.
-pub(crate) fn moved_on(c: Course, majority: i32, slot: Slot) -> Course
+pub(crate) fn moved_on(c: Course, majority: i32, slot: Option<SlotNumber>) -> Course
     ensures { result ≡ with_sign c majority slot }
 {
-    let l = c.last;
     Course {
-        majority: majority,
-        slot: slot,
-        last: l,
-        misses: c.misses,
-        stray: c.stray,
-        missed: c.missed,
+        majority,
+        slot,
+        ..c
     }
 }
 
@@ -165,14 +154,14 @@ fn elsewhere(marked: bool, c: Course, at: u64) -> Course
     requires { at ≤ 2 ^ 62 }
     ensures { result ≡ elsewhere_of 9296 marked c at }
 {
-    let mut n = c;
-    let s = c.slot;
     if marked {
-        if unknown(s) {
+        if unknown(c.slot) {
             framed(c, at)
         } else {
-            n.stray = tick(c.stray);
-            n
+            Course {
+                stray: tick(c.stray),
+                ..c
+            }
         }
     } else {
         c
@@ -184,12 +173,10 @@ pub(crate) fn fsync_course(positive: bool, c: Course, at: u64) -> Marked
     requires { (at ≤ 2 ^ 62) × CourseOk c }
     ensures { result ≡ fsync_course 9296 positive c at }
 {
-    let m = c.majority;
-    let s = c.slot;
-    let marked = marks(positive, m);
-    let t = next_slot(s);
-    let n = moved_on(c, swayed(positive, m), t);
-    if begins(t) {
+    let marked = marks(positive, c.majority);
+    let slot = next_slot(c.slot);
+    let n = moved_on(c, swayed(positive, c.majority), slot);
+    if begins(slot) {
         due(marked, n, at)
     } else {
         Marked {

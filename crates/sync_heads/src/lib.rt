@@ -2,6 +2,7 @@
 #![tactic(auto)]
 
 mod frames;
+pub mod given;
 pub mod plain;
 pub mod ranged;
 mod words;
@@ -31,25 +32,27 @@ pub enum Stage {
     Known(Parity),
 }
 
+// A slot's number within its frame, and the frame's number.
 #[derive(Clone, Copy)]
-pub enum Slot {
-    Unknown,
-    In { number: u8, frame: u32 },
+pub struct SlotNumber {
+    pub number: u8,
+    pub frame: u32,
 }
 
-// The last frame head.
+// Where a frame begins, and its number.
 #[derive(Clone, Copy)]
-pub enum Record {
-    Never,
-    Last { at: u64, frame: u32 },
+pub struct FrameHead {
+    pub at: u64,
+    pub frame: u32,
 }
 
-// What the heads so far come to: the majority of the F words' signs, slot and frame, and the marks that were missed or strayed.
+// What the heads so far come to: the majority of the F words' signs, slot and frame once a mark told them, the last frame head, and the marks that
+// were missed or strayed.
 #[derive(Clone, Copy)]
 pub struct Course {
     pub majority: i32,
-    pub slot: Slot,
-    pub last: Record,
+    pub slot: Option<SlotNumber>,
+    pub last: Option<FrameHead>,
     pub misses: u32,
     pub stray: u32,
     pub missed: u32,
@@ -69,14 +72,8 @@ pub struct Head {
     pub corr: Corr,
     pub theta: u32,
     pub amp: i64,
-    pub slot: Slot,
+    pub slot: Option<SlotNumber>,
     pub nco_phase: u32,
-}
-
-#[derive(Clone, Copy)]
-pub enum Headed {
-    Nothing,
-    One(Head),
 }
 
 // What a word is read as.
@@ -86,7 +83,8 @@ pub struct Said {
     pub corr: Corr,
 }
 
-// The course after a head, or that it was the second mark missed in a row.
+// The course after a head, and whether it was the second mark missed in a row. A flag and no Result: a loss, too, hands on the course, whose last
+// frame head the restart keeps; so do the two below.
 #[derive(Clone, Copy)]
 pub struct Marked {
     pub lost: bool,
@@ -98,7 +96,7 @@ pub struct Marked {
 pub struct Told {
     pub lost: bool,
     pub course: Course,
-    pub head: Headed,
+    pub head: Option<Head>,
 }
 
 // What a reading makes of stage and course, and the heads that it tells, in order.
@@ -107,6 +105,6 @@ pub struct Taken {
     pub lost: bool,
     pub stage: Stage,
     pub course: Course,
-    pub first: Headed,
-    pub second: Headed,
+    pub first: Option<Head>,
+    pub second: Option<Head>,
 }

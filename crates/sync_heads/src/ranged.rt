@@ -1,28 +1,28 @@
 // For the slot sync, which proves the ranges: what a reading comes to.
+#![tactic(auto, unfolding(crate::specs::Heads::is_fsync, crate::specs::Heads::ssync_taken, crate::specs::Heads::fsync_taken, crate::specs::Heads::both_heads))]
+
 ghost use Rattle.std.specs.Prelude.{◌≡◌};
 ghost use Rattle.sync_heads.specs.Heads.{head_of, is_fsync, ssync_of, fsync_of, ssync_taken, fsync_taken, known_of, both_heads, first_of, read_of};
 ghost use Rattle.sync_heads.specs.Ready.{Small, ReadingOk, CourseOk, ParityOk, StageOk};
 
 use crate::{
-    Course, Head, Headed, Parity, Reading, Said, Slot, Stage, Taken, Told, Word, frames, words,
+    Course, Head, Parity, Reading, Said, SlotNumber, Stage, Taken, Told, Word, frames, words,
 };
 use sync_corr::Corr;
 
 // The head as told.
-fn head_of(w: Said, at: u64, slot: Slot) -> Head
+fn head_of(w: Said, at: u64, slot: Option<SlotNumber>) -> Head
     requires { Small w.corr }
     ensures { result ≡ head_of w at slot }
 {
-    let c = w.corr;
-    let p = fx::ranged::cordic(c.re as i64, c.im as i64);
-    let word = w.word;
+    let p = fx::ranged::cordic(w.corr.re as i64, w.corr.im as i64);
     Head {
-        at: at,
-        word: word,
-        corr: c,
+        at,
+        word: w.word,
+        corr: w.corr,
         theta: p.angle,
         amp: p.size,
-        slot: slot,
+        slot,
         nco_phase: 0,
     }
 }
@@ -42,16 +42,12 @@ fn ssync_head(c: Course, r: Reading) -> Told
     requires { (ReadingOk r) × CourseOk c }
     ensures { result ≡ ssync_of c r }
 {
-    let s = c.slot;
-    let t = frames::next_slot(s);
-    let n = frames::moved_on(c, c.majority, t);
-    let b = r.both;
-    let f = b.s;
-    let w = words::said(true, b, f);
+    let slot = frames::next_slot(c.slot);
+    let w = words::said(true, r.both, r.both.s);
     Told {
         lost: false,
-        course: n,
-        head: Headed::One(head_of(w, r.at, t)),
+        course: frames::moved_on(c, c.majority, slot),
+        head: Some(head_of(w, r.at, slot)),
     }
 }
 
@@ -60,23 +56,19 @@ fn fsync_head(c: Course, r: Reading, last: Corr) -> Told
     requires { (ReadingOk r) × (CourseOk c) × (Small last) }
     ensures { result ≡ fsync_of 9296 c r last }
 {
-    let b = r.both;
-    let w = words::said(false, b, last);
-    let v = w.word;
-    let m = frames::fsync_course(is_fsync(v), c, r.at);
-    let n = m.course;
+    let w = words::said(false, r.both, last);
+    let m = frames::fsync_course(is_fsync(w.word), c, r.at);
     if m.lost {
         Told {
             lost: true,
-            course: n,
-            head: Headed::Nothing,
+            course: m.course,
+            head: None,
         }
     } else {
-        let s = n.slot;
         Told {
             lost: false,
-            course: n,
-            head: Headed::One(head_of(w, r.at, s)),
+            course: m.course,
+            head: Some(head_of(w, r.at, m.course.slot)),
         }
     }
 }
@@ -87,20 +79,16 @@ fn ssync_taken(odd: bool, c: Course, r: Reading) -> Taken
     ensures { result ≡ ssync_taken odd c r }
 {
     let t = ssync_head(c, r);
-    let b = r.both;
-    let s = b.s;
-    let n = t.course;
-    let h = t.head;
     Taken {
         lost: false,
         stage: Stage::Known(Parity {
-            odd: odd,
+            odd,
             due: false,
-            last: s,
+            last: r.both.s,
         }),
-        course: n,
-        first: h,
-        second: Headed::Nothing,
+        course: t.course,
+        first: t.head,
+        second: None,
     }
 }
 
@@ -110,18 +98,16 @@ fn fsync_taken(odd: bool, last: Corr, c: Course, r: Reading) -> Taken
     ensures { result ≡ fsync_taken 9296 odd last c r }
 {
     let t = fsync_head(c, r, last);
-    let n = t.course;
-    let h = t.head;
     Taken {
         lost: t.lost,
         stage: Stage::Known(Parity {
-            odd: odd,
+            odd,
             due: true,
-            last: last,
+            last,
         }),
-        course: n,
-        first: h,
-        second: Headed::Nothing,
+        course: t.course,
+        first: t.head,
+        second: None,
     }
 }
 
@@ -130,11 +116,10 @@ fn known(p: Parity, c: Course, r: Reading) -> Taken
     requires { (ParityOk p) × (CourseOk c) × (ReadingOk r) }
     ensures { result ≡ known_of 9296 p c r }
 {
-    let last = p.last;
     if p.due {
         ssync_taken(p.odd, c, r)
     } else {
-        fsync_taken(p.odd, last, c, r)
+        fsync_taken(p.odd, p.last, c, r)
     }
 }
 
@@ -144,20 +129,11 @@ fn both_heads(z: Reading, c: Course, r: Reading) -> Taken
     ensures { result ≡ both_heads 9296 z c r }
 {
     let a = ssync_head(c, z);
-    let n = a.course;
-    let h = a.head;
-    let b = z.both;
-    let last = b.s;
-    let t = fsync_taken(false, last, n, r);
-    let k = t.stage;
-    let m = t.course;
-    let g = t.first;
+    let t = fsync_taken(false, z.both.s, a.course, r);
     Taken {
-        lost: t.lost,
-        stage: k,
-        course: m,
-        first: h,
-        second: g,
+        first: a.head,
+        second: t.first,
+        ..t
     }
 }
 
@@ -166,9 +142,7 @@ fn first(z: Reading, c: Course, r: Reading) -> Taken
     requires { (ReadingOk z) × (CourseOk c) × (ReadingOk r) }
     ensures { result ≡ first_of 9296 z c r }
 {
-    let a = z.both;
-    let b = r.both;
-    if words::margin(a) < words::margin(b) {
+    if words::margin(z.both) < words::margin(r.both) {
         ssync_taken(true, c, r)
     } else {
         both_heads(z, c, r)
@@ -185,8 +159,8 @@ pub fn read(k: Stage, c: Course, r: Reading) -> Taken
             lost: false,
             stage: Stage::First(r),
             course: c,
-            first: Headed::Nothing,
-            second: Headed::Nothing,
+            first: None,
+            second: None,
         },
         Stage::First(z) => first(z, c, r),
         Stage::Known(p) => known(p, c, r),

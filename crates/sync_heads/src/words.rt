@@ -34,9 +34,7 @@ pub(crate) fn margin(b: Both) -> i64
     requires { Smalls b }
     ensures { result ≡ margin_of b }
 {
-    let s = b.s;
-    let f = b.f;
-    size(s) - size(f)
+    size(b.s) - size(b.f)
 }
 
 fn turned(c: Corr) -> Corr
@@ -54,22 +52,20 @@ pub(crate) fn said(ssync: bool, b: Both, last: Corr) -> Said
     requires { (Smalls b) × (Small last) }
     ensures { result ≡ said_of ssync b last }
 {
-    let s = b.s;
-    let f = b.f;
     if ssync {
         Said {
             word: Word::Ssync,
-            corr: s,
+            corr: b.s,
         }
-    } else if side(f, last) < 0 {
+    } else if side(b.f, last) < 0 {
         Said {
             word: Word::NotFsync,
-            corr: turned(f),
+            corr: turned(b.f),
         }
     } else {
         Said {
             word: Word::Fsync,
-            corr: f,
+            corr: b.f,
         }
     }
 }

@@ -1,4 +1,8 @@
 -- What the heads so far come to, written by the rules, goes on by the step's own rules head by head, as long as no head loses. Assumes nothing.
+use Rattle.std.specs.Prelude.{Option, None, Some}
+use Rattle.sync_heads.specs.Numbers.{slot_in, last_head}
+use Rattle.sync_heads.specs.declared.FrameHead.{FrameHead}
+use Rattle.sync_heads.specs.declared.SlotNumber.{SlotNumber}
 use Prim.Native.Nat.{◌%◌, ◌*◌, ◌+◌, ◌-◌, ◌/◌, ◌<◌, ◌^◌, suc, ℕ}
 use Rattle.laws.proofs.Tests.{and_both, by_test, never}
 use Rattle.laws.specs.Choice as choice
@@ -7,10 +11,6 @@ use Rattle.sync_corr.specs.declared.Both.{Both}
 use Rattle.sync_heads.specs.Frames.{due_of, elsewhere_of, frame_due, frame_of, framed_of, fsync_course, gap_of, marks_of, next_slot, swayed_of, tick_of, unknown_slot, with_sign}
 use Rattle.sync_heads.specs.declared.Course.{Course}
 use Rattle.sync_heads.specs.declared.Marked.{Marked}
-use Rattle.sync_heads.specs.declared.Record.TheVariants.{Last, Never}
-use Rattle.sync_heads.specs.declared.Record.{Record}
-use Rattle.sync_heads.specs.declared.Slot.TheVariants.{In, Unknown}
-use Rattle.sync_heads.specs.declared.Slot.{Slot}
 use Rattle.sync_history.proofs.Firsts.{by_first, first-begins, first-is, first_stays, first-waits}
 use Rattle.sync_history.proofs.Sway.{and_no, majority_small, marked_f, marks_is, sway_is, unmarked_other}
 use Rattle.sync_history.specs.Heads.{capped, clamped, expected, f_at, first_mark, frame_at, majority, marked_at, markers_lose, missed_at, missed_since, misses_to, parity, position_at, positive_at, record_since, record_to, slot_since, ssync_at, stray_at, stray_since, strays_to}
@@ -18,13 +18,12 @@ use borrow.Author.Tests.{eq-eqb, eqb-false, eqb-true, le-ltb, lt-ltb}
 use lib.Dec.{eqb, ltb}
 use lib.IntN.{◌+ℤ◌, pos, ℤ}
 use mathlib.Core.Bool.{Bool, ◌&&◌, false, not, true}
-use mathlib.Core.Option.{Option, none, some}
 use mathlib.Core.Path.{◌∙◌, ◌≡◌, ap, refl, sym}
 use native.Mathlib.Nat.{div-eq_of_lt-le}
 use native.Mathlib.Omega.{arith}
 
 -- ---- a course by its six parts
-course_is : {m m' : ℤ} {s s' : Slot} {l l' : Record} {k k' a a' d d' : ℕ} → m ≡ m' → s ≡ s' → l ≡ l' → k ≡ k' → a ≡ a' → d ≡ d' →
+course_is : {m m' : ℤ} {s s' : Option SlotNumber} {l l' : Option FrameHead} {k k' a a' d d' : ℕ} → m ≡ m' → s ≡ s' → l ≡ l' → k ≡ k' → a ≡ a' → d ≡ d' →
     ◌≡◌ {A = Course} (record { majority = m; slot = s; last = l; misses = k; stray = a; missed = d }) (record { majority = m'; slot = s'; last = l'; misses = k'; stray = a'; missed = d' })
 course_is p q r u v w = rw (p, q, r, u, v, w)
 
@@ -42,65 +41,65 @@ gap_one n at last z e =
     let q : (at - last + 60 * n) / (120 * n) ≡ 1 = div-eq_of_lt-le (120 * n) (omega (arith, e)) (omega (arith, e, z)) in
     rw q
 
-frame_one : (n at last frame : ℕ) → 0 < n → at ≡ last + 120 * n → frame_of n at (Last last frame) ≡ (frame + 1) % 2 ^ 32
+frame_one : (n at last frame : ℕ) → 0 < n → at ≡ last + 120 * n → frame_of n at (last_head last frame) ≡ (frame + 1) % 2 ^ 32
 unfolding frame_of
 frame_one n at last frame z e = rw (gap_one n at last z e)
 
-frame_small : (n at : ℕ) (r : Record) → frame_of n at r % 2 ^ 32 ≡ frame_of n at r
+frame_small : (n at : ℕ) (r : Option FrameHead) → frame_of n at r % 2 ^ 32 ≡ frame_of n at r
 unfolding frame_of
-frame_small n at Never = refl
-frame_small n at (Last last frame) = omega arith
+frame_small n at None = refl
+frame_small n at (Some s) = omega arith
 
 -- ---- an F head, by the step, of a course in its parts
-module _ (n at : ℕ) (p : Bool) (m : ℤ) (l : Record) (k a d : ℕ) where
-  abbrev course_of : Slot → Course
+module _ (n at : ℕ) (p : Bool) (m : ℤ) (l : Option FrameHead) (k a d : ℕ) where
+  abbrev course_of : Option SlotNumber → Course
   course_of s = record { majority = m; slot = s; last = l; misses = k; stray = a; missed = d }
 
   abbrev framed : ℕ → ℕ → Marked
   framed k' d' =
       let g = frame_of n at l in
-      record { lost = false; course = record { majority = swayed_of p m; slot = In 0 g; last = Last at g; misses = k'; stray = a; missed = d' } }
+      record { lost = false; course = record { majority = swayed_of p m; slot = slot_in 0 g; last = last_head at g; misses = k'; stray = a; missed = d' } }
 
   -- without numbers
-  head_first : marks_of p m ≡ true → fsync_course n p (course_of Unknown) at ≡ framed k d
+  head_first : marks_of p m ≡ true → fsync_course n p (course_of None) at ≡ framed k d
   unfolding fsync_course next_slot frame_due elsewhere_of unknown_slot framed_of choice.when◌then◌else◌
   head_first e = rw e
 
-  head-none : marks_of p m ≡ false → fsync_course n p (course_of Unknown) at ≡ record { lost = false; course = record { majority = swayed_of p m; slot = Unknown; last = l; misses = k; stray = a; missed = d } }
+  head-none : marks_of p m ≡ false → fsync_course n p (course_of None) at ≡ record { lost = false; course = record { majority = swayed_of p m; slot = None; last = l; misses = k; stray = a; missed = d } }
   unfolding fsync_course next_slot frame_due elsewhere_of unknown_slot choice.when◌then◌else◌
   head-none e = rw e
 
   -- where a mark is expected
   module _ (r g : ℕ) where
-    head-marked : marks_of p m ≡ true → (r + 1) % 120 ≡ 0 → fsync_course n p (course_of (In r g)) at ≡ framed 0 d
+    head-marked : marks_of p m ≡ true → (r + 1) % 120 ≡ 0 → fsync_course n p (course_of (slot_in r g)) at ≡ framed 0 d
     unfolding fsync_course next_slot frame_due due_of framed_of choice.when◌then◌else◌
     head-marked e z = rw (e, z)
 
-    head-missed : marks_of p m ≡ false → (r + 1) % 120 ≡ 0 → ltb k 1 ≡ true → fsync_course n p (course_of (In r g)) at ≡ framed (k + 1) (tick_of d)
+    head-missed : marks_of p m ≡ false → (r + 1) % 120 ≡ 0 → ltb k 1 ≡ true → fsync_course n p (course_of (slot_in r g)) at ≡ framed (k + 1) (tick_of d)
     unfolding fsync_course next_slot frame_due due_of framed_of choice.when◌then◌else◌
     head-missed e z t = rw (e, z, t)
 
     head-loses : marks_of p m ≡ false → (r + 1) % 120 ≡ 0 → ltb k 1 ≡ false →
-        fsync_course n p (course_of (In r g)) at ≡ record { lost = true; course = record { majority = swayed_of p m; slot = In 0 g; last = l; misses = k; stray = a; missed = d } }
+        fsync_course n p (course_of (slot_in r g)) at ≡ record { lost = true; course = record { majority = swayed_of p m; slot = slot_in 0 g; last = l; misses = k; stray = a; missed = d } }
     unfolding fsync_course next_slot frame_due due_of framed_of choice.when◌then◌else◌
     head-loses e z t = rw (e, z, t)
 
     -- elsewhere
     head-stray : marks_of p m ≡ true → (q : ℕ) → (r + 1) % 120 ≡ q → eqb q 0 ≡ false →
-        fsync_course n p (course_of (In r g)) at ≡ record { lost = false; course = record { majority = swayed_of p m; slot = In q g; last = l; misses = k; stray = tick_of a; missed = d } }
+        fsync_course n p (course_of (slot_in r g)) at ≡ record { lost = false; course = record { majority = swayed_of p m; slot = slot_in q g; last = l; misses = k; stray = tick_of a; missed = d } }
     unfolding fsync_course next_slot frame_due elsewhere_of unknown_slot choice.when◌then◌else◌
     head-stray e q z t = rw (e, z, t)
 
     head_plain : marks_of p m ≡ false → (q : ℕ) → (r + 1) % 120 ≡ q → eqb q 0 ≡ false →
-        fsync_course n p (course_of (In r g)) at ≡ record { lost = false; course = record { majority = swayed_of p m; slot = In q g; last = l; misses = k; stray = a; missed = d } }
+        fsync_course n p (course_of (slot_in r g)) at ≡ record { lost = false; course = record { majority = swayed_of p m; slot = slot_in q g; last = l; misses = k; stray = a; missed = d } }
     unfolding fsync_course next_slot frame_due elsewhere_of unknown_slot choice.when◌then◌else◌
     head_plain e q z t = rw (e, z, t)
 
-module _ (n start : ℕ) (kept : Record) (b : ℕ → Both) where
+module _ (n start : ℕ) (kept : Option FrameHead) (b : ℕ → Both) where
   -- no mark at the last frame head
   unfoldable pub held_since : Option ℕ → ℕ → ℕ
-  held_since none i = 0
-  held_since (some f) i = when marked_at b (f + (i - 1 - f) / 120 * 120) then 0 else 1
+  held_since None i = 0
+  held_since (Some f) i = when marked_at b (f + (i - 1 - f) / 120 * 120) then 0 else 1
 
   unfoldable pub course_since : Option ℕ → ℕ → Course
   course_since o i =
@@ -145,7 +144,7 @@ module _ (n start : ℕ) (kept : Record) (b : ℕ → Both) where
   misses-same i e = let z : misses_to b i ≡ misses_to b i + 0 = omega arith in ap capped (z ∙ ap (λ (k : ℕ). misses_to b i + k) (sym (if_no (missed_at b i) 1 0 e)))
 
   -- ---- before the first mark
-  module _ (i : ℕ) (e : first_mark b i ≡ none) where
+  module _ (i : ℕ) (e : first_mark b i ≡ None) where
     stray-none : stray_at b i ≡ false
     unfolding stray_at stray_since
     stray-none = rw e
@@ -159,7 +158,7 @@ module _ (n start : ℕ) (kept : Record) (b : ℕ → Both) where
     lose-none = rw missed-none (and_no (missed_since b (first_mark b i) (i - 120)))
 
   -- ---- after it, at head i
-  module _ (i f : ℕ) (e : first_mark b i ≡ some f) where
+  module _ (i f : ℕ) (e : first_mark b i ≡ Some f) where
     less : f < i
     less = (first-is (marked_at b) i f e).0
 
@@ -203,20 +202,20 @@ module _ (n start : ℕ) (kept : Record) (b : ℕ → Both) where
 
     -- ---- the parts of the course
     -- the slot, the record and the held miss of a frame that goes on
-    slot_on : expected f i ≡ false → In ((i - f) % 120) (frame_at n start kept b f (i - 1)) ≡ slot_since n start kept b (some f) (suc i - 1)
+    slot_on : expected f i ≡ false → slot_in ((i - f) % 120) (frame_at n start kept b f (i - 1)) ≡ slot_since n start kept b (Some f) (suc i - 1)
     unfolding slot_since frame_at
     slot_on d = rw (back, same-frame d)
 
-    record-on : expected f i ≡ false → record_since n start kept b (some f) i ≡ record_since n start kept b (some f) (suc i)
+    record-on : expected f i ≡ false → record_since n start kept b (Some f) i ≡ record_since n start kept b (Some f) (suc i)
     unfolding record_since frame_at
     record-on d = rw (back, same-frame d)
 
-    held_on : expected f i ≡ false → held_since (some f) i ≡ held_since (some f) (suc i)
+    held_on : expected f i ≡ false → held_since (Some f) i ≡ held_since (Some f) (suc i)
     unfolding held_since
     held_on d = rw (back, same-frame d)
 
     -- .. and of one that begins
-    frame-new : 0 < n → expected f i ≡ true → frame_of n (position_at n start kept b i) (record_since n start kept b (some f) i) ≡ frame_at n start kept b f i
+    frame-new : 0 < n → expected f i ≡ true → frame_of n (position_at n start kept b i) (record_since n start kept b (Some f) i) ≡ frame_at n start kept b f i
     unfolding record_since frame_at position_at
     frame-new z d =
         let x = f + (i - 1 - f) / 120 * 120 in
@@ -231,19 +230,19 @@ module _ (n start : ℕ) (kept : Record) (b : ℕ → Both) where
         wraps : (g q : ℕ) → ((g + q) % 2 ^ 32 + 1) % 2 ^ 32 ≡ (g + (q + 1)) % 2 ^ 32
         wraps g q = omega arith
 
-    slot-new : 0 < n → expected f i ≡ true → In 0 (frame_of n (position_at n start kept b i) (record_since n start kept b (some f) i)) ≡ slot_since n start kept b (some f) (suc i - 1)
+    slot-new : 0 < n → expected f i ≡ true → slot_in 0 (frame_of n (position_at n start kept b i) (record_since n start kept b (Some f) i)) ≡ slot_since n start kept b (Some f) (suc i - 1)
     unfolding slot_since
     slot-new z d = rw (back, frame-new z d, whole d)
 
-    record-here : expected f i ≡ true → Last (position_at n start kept b i) (frame_at n start kept b f i) ≡ record_since n start kept b (some f) (suc i)
+    record-here : expected f i ≡ true → last_head (position_at n start kept b i) (frame_at n start kept b f i) ≡ record_since n start kept b (Some f) (suc i)
     unfolding record_since
     record-here d = rw (back, here d)
 
     record-new : 0 < n → expected f i ≡ true →
-        Last (position_at n start kept b i) (frame_of n (position_at n start kept b i) (record_since n start kept b (some f) i)) ≡ record_since n start kept b (some f) (suc i)
-    record-new z d = ap (Last (position_at n start kept b i)) (frame-new z d) ∙ record-here d
+        last_head (position_at n start kept b i) (frame_of n (position_at n start kept b i) (record_since n start kept b (Some f) i)) ≡ record_since n start kept b (Some f) (suc i)
+    record-new z d = ap (last_head (position_at n start kept b i)) (frame-new z d) ∙ record-here d
 
-    held_new : expected f i ≡ true → (when marked_at b i then 0 else 1) ≡ held_since (some f) (suc i)
+    held_new : expected f i ≡ true → (when marked_at b i then 0 else 1) ≡ held_since (Some f) (suc i)
     unfolding held_since
     held_new d = rw (back, here d)
 
@@ -252,11 +251,11 @@ module _ (n start : ℕ) (kept : Record) (b : ℕ → Both) where
       abbrev at : ℕ
       at = position_at n start kept b i
 
-      abbrev l : Record
-      l = record_since n start kept b (some f) i
+      abbrev l : Option FrameHead
+      l = record_since n start kept b (Some f) i
 
       abbrev k : ℕ
-      k = held_since (some f) i
+      k = held_since (Some f) i
 
       abbrev strays : ℕ
       strays = capped (strays_to b i)
@@ -271,7 +270,7 @@ module _ (n start : ℕ) (kept : Record) (b : ℕ → Both) where
       g = frame_at n start kept b f (i - 1)
 
       abbrev Goes : Type 0
-      Goes = fsync_course n (positive_at b i) (course_since (some f) i) (position_at n start kept b i) ≡ record { lost = false; course = course_since (some f) (suc i) }
+      Goes = fsync_course n (positive_at b i) (course_since (Some f) i) (position_at n start kept b i) ≡ record { lost = false; course = course_since (Some f) (suc i) }
 
       marked-due : expected f i ≡ true → marked_at b i ≡ true → Goes
       unfolding course_since slot_since
@@ -281,11 +280,11 @@ module _ (n start : ℕ) (kept : Record) (b : ℕ → Both) where
           (strays-same i (stray-is ∙ rw (m, d))) (misses-same i (missed-is ∙ rw (d, m))))
 
       -- none is held: the last frame head was marked
-      held_none : expected f i ≡ true → marked_at b (i - 120) ≡ true → held_since (some f) i ≡ 0
+      held_none : expected f i ≡ true → marked_at b (i - 120) ≡ true → held_since (Some f) i ≡ 0
       unfolding held_since
       held_none d w = rw (before d) (if_yes (marked_at b (i - 120)) 0 1 w)
 
-      held_one : expected f i ≡ true → marked_at b (i - 120) ≡ false → held_since (some f) i ≡ 1
+      held_one : expected f i ≡ true → marked_at b (i - 120) ≡ false → held_since (Some f) i ≡ 1
       unfolding held_since
       held_one d w = rw (before d) (if_no (marked_at b (i - 120)) 0 1 w)
 
@@ -319,8 +318,8 @@ module _ (n start : ℕ) (kept : Record) (b : ℕ → Both) where
           rw (lt-ltb f (i - 120) (omega (arith, less, y, v)), eq-eqb ((i - 120 - f) % 120) 0 (omega (arith, less, y))) refl
 
       lost-due : expected f i ≡ true → marked_at b i ≡ false → marked_at b (i - 120) ≡ false →
-          ((fsync_course n (positive_at b i) (course_since (some f) i) (position_at n start kept b i)).lost ≡ true)
-          × ((fsync_course n (positive_at b i) (course_since (some f) i) (position_at n start kept b i)).course.last ≡ l)
+          ((fsync_course n (positive_at b i) (course_since (Some f) i) (position_at n start kept b i)).lost ≡ true)
+          × ((fsync_course n (positive_at b i) (course_since (Some f) i) (position_at n start kept b i)).course.last ≡ l)
       unfolding course_since slot_since
       lost-due d m w =
           let h = held_one d w in
@@ -353,7 +352,7 @@ module _ (n start : ℕ) (kept : Record) (b : ℕ → Both) where
         (λ t. eqb-true (i % 2) (parity b) t)
         (λ t. absurd (never (sym (rw (lt-ltb 0 i l, t) refl) ∙ fa)))
 
-    not-expected : (f : ℕ) → first_mark b i ≡ some f → expected f i ≡ false
+    not-expected : (f : ℕ) → first_mark b i ≡ Some f → expected f i ≡ false
     not-expected f e =
         let w = first-is (marked_at b) i f e in
         let l : 0 < i = omega (arith, w.0) in
@@ -362,17 +361,17 @@ module _ (n start : ℕ) (kept : Record) (b : ℕ → Both) where
         by_test (expected f i) (λ d. let y = whole i f e d in absurd (omega (arith, u, v, w.0, y))) (λ d. d)
 
     -- the numbers go on
-    other_none : first_mark b i ≡ none → with_sign (course_since none i) (majority b i) Unknown ≡ course_since none (suc i)
+    other_none : first_mark b i ≡ None → with_sign (course_since None i) (majority b i) None ≡ course_since None (suc i)
     unfolding course_since slot_since record_since held_since
     other_none e = course_is (majority-other i fa) refl refl refl (strays-same i (stray-none i e)) (misses-same i (missed-none i e))
 
-    other-some : (f : ℕ) → first_mark b i ≡ some f →
-        with_sign (course_since (some f) i) (majority b i) (In (((i - 1 - f) % 120 + 1) % 120) (frame_at n start kept b f (i - 1))) ≡ course_since (some f) (suc i)
+    other-some : (f : ℕ) → first_mark b i ≡ Some f →
+        with_sign (course_since (Some f) i) (majority b i) (slot_in (((i - 1 - f) % 120 + 1) % 120) (frame_at n start kept b f (i - 1))) ≡ course_since (Some f) (suc i)
     unfolding course_since
     other-some f e =
         let d = not-expected f e in
         let m = unmarked_other b i fa in
-        course_is (majority-other i fa) (ap (λ (x : ℕ). In x (frame_at n start kept b f (i - 1))) (number i f e) ∙ slot_on i f e d) (record-on i f e d) (held_on i f e d)
+        course_is (majority-other i fa) (ap (λ (x : ℕ). slot_in x (frame_at n start kept b f (i - 1))) (number i f e) ∙ slot_on i f e d) (record-on i f e d) (held_on i f e d)
         (strays-same i (stray-is i f e ∙ rw m)) (misses-same i (missed-is i f e ∙ rw d))
 
     pub other_step : with_sign (course_to i) (course_to i).majority (next_slot (course_to i).slot) ≡ course_to (suc i)
@@ -411,54 +410,54 @@ module _ (n start : ℕ) (kept : Record) (b : ℕ → Both) where
         let y : frame_of n (position_at n start kept b i) kept + 0 ≡ frame_of n (position_at n start kept b i) kept = omega arith in
         rw (x, y) (sym (frame_small n (position_at n start kept b i) kept))
 
-    first_slot : In 0 (frame_of n (position_at n start kept b i) kept) ≡ slot_since n start kept b (some i) (suc i - 1)
+    first_slot : slot_in 0 (frame_of n (position_at n start kept b i) kept) ≡ slot_since n start kept b (Some i) (suc i - 1)
     unfolding slot_since
     first_slot =
         let x : suc i - 1 ≡ i = omega arith in
         let y : (i - i) % 120 ≡ 0 = omega arith in
         rw (x, y, frame-first)
 
-    first-record : Last (position_at n start kept b i) (frame_of n (position_at n start kept b i) kept) ≡ record_since n start kept b (some i) (suc i)
+    first-record : last_head (position_at n start kept b i) (frame_of n (position_at n start kept b i) kept) ≡ record_since n start kept b (Some i) (suc i)
     unfolding record_since
     first-record =
         let x : suc i - 1 ≡ i = omega arith in
         let y : i + (i - i) / 120 * 120 ≡ i = omega arith in
         rw (x, y, frame-first)
 
-    first-held : marked_at b i ≡ true → 0 ≡ held_since (some i) (suc i)
+    first-held : marked_at b i ≡ true → 0 ≡ held_since (Some i) (suc i)
     unfolding held_since
     first-held m =
         let y : i + (suc i - 1 - i) / 120 * 120 ≡ i = omega arith in
         rw y (sym (if_yes (marked_at b i) 0 1 m))
 
-    first_goes : first_mark b i ≡ none → marked_at b i ≡ true →
-        fsync_course n (positive_at b i) (course_since none i) (position_at n start kept b i) ≡ record { lost = false; course = course_since (some i) (suc i) }
+    first_goes : first_mark b i ≡ None → marked_at b i ≡ true →
+        fsync_course n (positive_at b i) (course_since None i) (position_at n start kept b i) ≡ record { lost = false; course = course_since (Some i) (suc i) }
     unfolding course_since slot_since record_since held_since
     first_goes e m =
         head_first n (position_at n start kept b i) (positive_at b i) (majority b i) kept 0 (capped (strays_to b i)) (capped (misses_to b i)) (marks_is b i fa ∙ m)
         ∙ kept_is (course_is (majority-f i fa) first_slot first-record (first-held m) (strays-same i (stray-none i e)) (misses-same i (missed-none i e)))
 
-    none-goes : first_mark b i ≡ none → marked_at b i ≡ false →
-        fsync_course n (positive_at b i) (course_since none i) (position_at n start kept b i) ≡ record { lost = false; course = course_since none (suc i) }
+    none-goes : first_mark b i ≡ None → marked_at b i ≡ false →
+        fsync_course n (positive_at b i) (course_since None i) (position_at n start kept b i) ≡ record { lost = false; course = course_since None (suc i) }
     unfolding course_since slot_since record_since held_since
     none-goes e m =
         head-none n (position_at n start kept b i) (positive_at b i) (majority b i) kept 0 (capped (strays_to b i)) (capped (misses_to b i)) (marks_is b i fa ∙ m)
         ∙ kept_is (course_is (majority-f i fa) refl refl refl (strays-same i (stray-none i e)) (misses-same i (missed-none i e)))
 
-    at_some : (f : ℕ) → first_mark b i ≡ some f →
-        fsync_course n (positive_at b i) (course_since (some f) i) (position_at n start kept b i) ≡ record { lost = false; course = course_since (some f) (suc i) } →
+    at_some : (f : ℕ) → first_mark b i ≡ Some f →
+        fsync_course n (positive_at b i) (course_since (Some f) i) (position_at n start kept b i) ≡ record { lost = false; course = course_since (Some f) (suc i) } →
         comes_to i ≡ record { lost = false; course = course_to (suc i) }
     unfolding course_to
     at_some f e q = rw (e, first_stays (marked_at b) i f e) q
 
-    loses : (f : ℕ) → first_mark b i ≡ some f → expected f i ≡ true → marked_at b i ≡ false → marked_at b (i - 120) ≡ false → Comes i
+    loses : (f : ℕ) → first_mark b i ≡ Some f → expected f i ≡ true → marked_at b i ≡ false → marked_at b (i - 120) ≡ false → Comes i
     unfolding course_to record_to
     loses f e d m w =
         let y = lost-due i f e z fa d m w in
         let v = loses-second i f e z fa d m w in
         record { lost = rw e y.0 ∙ sym v; on = λ q. absurd (never (sym v ∙ q)); last = λ q. rw e y.1 }
 
-    some-step : (f : ℕ) → first_mark b i ≡ some f → Comes i
+    some-step : (f : ℕ) → first_mark b i ≡ Some f → Comes i
     some-step f e =
         by_test (expected f i)
         (λ d. by_test (marked_at b i)
@@ -468,7 +467,7 @@ module _ (n start : ℕ) (kept : Record) (b : ℕ → Both) where
         (λ w. loses f e d m w)))
         (λ d. keeps i (keeps-else i f e z fa d) (at_some f e (by_test (marked_at b i) (stray-else i f e z fa d) (plain-else i f e z fa d))))
 
-    none-step : first_mark b i ≡ none → comes_to i ≡ record { lost = false; course = course_to (suc i) }
+    none-step : first_mark b i ≡ None → comes_to i ≡ record { lost = false; course = course_to (suc i) }
     unfolding course_to
     none-step e =
         by_test (marked_at b i)

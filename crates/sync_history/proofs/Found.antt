@@ -1,4 +1,5 @@
 -- Lock and loss by periods as functions of the periods are what History says of them. Assumes nothing.
+use Rattle.std.specs.Prelude.{Some}
 use Prim.Native.Nat.{◌+◌, ◌-◌, ◌<◌, ◌≤◌, suc, zero, ℕ}
 use Rattle.laws.proofs.Tests.{and_both, by_test, never}
 use Rattle.sync_history.proofs.Firsts.{First, first_found, first-is}
@@ -8,7 +9,6 @@ use Rattle.sync_lock.specs.Period.{counts_of}
 use borrow.Author.Tests.{eq-eqb, eqb-false, eqb-true, le-leb, leb-true}
 use lib.Dec.{eqb, leb}
 use mathlib.Core.Bool.{◌&&◌, false, not, true}
-use mathlib.Core.Option.{some}
 use mathlib.Core.Path.{◌∙◌, ◌≡◌, refl, subst, sym}
 use native.Mathlib.Omega.{arith}
 
@@ -88,19 +88,19 @@ module _ (n : ℕ) (s : ℕ → ℕ) where
       let c : counts_at n s p (k - m) ≡ false = by_test (counts_at n s p (k - m)) (λ t. absurd (f (k - m) (omega arith) (omega (arith, b)) (counts-true p (k - m) t))) (λ t. t) in
       rw (c, all_others p k m (omega (arith, b)) (λ j h g. f j h (omega (arith, g)))) refl
 
-  found : (k p l : ℕ) → LockIn n s p l → l < k → (lock_in n s k ≡ some l) × ((figures n s l).place ≡ p)
+  found : (k p l : ℕ) → LockIn n s p l → l < k → (lock_in n s k ≡ Some l) × ((figures n s l).place ≡ p)
   found k p l f h = (first_found (fourth_at n s) k l (lock-first p l f) h, (true-fourth p l f.fourth).1)
 
-  found_only : (k l : ℕ) → lock_in n s k ≡ some l → (l < k) × LockIn n s (figures n s l).place l
+  found_only : (k l : ℕ) → lock_in n s k ≡ Some l → (l < k) × LockIn n s (figures n s l).place l
   found_only k l e = let w = first-is (fourth_at n s) k l e in (w.0, first-lock l w.1)
 
-  eighth : (k p : ℕ) → Eighth n s p k → (l : ℕ) × (lock_in n s k ≡ some l) × (eighth_at n s l k ≡ true)
+  eighth : (k p : ℕ) → Eighth n s p k → (l : ℕ) × (lock_in n s k ≡ Some l) × (eighth_at n s l k ≡ true)
   unfolding eighth_at
   eighth k p x =
       let w = found k p x.locked x.falls (omega (arith, x.after)) in
       (x.locked, w.0, rw (le-leb (x.locked + 8) k x.after, w.1, all_others p k 8 (omega (arith, x.after)) x.others) refl)
 
-  eighth_only : (k l : ℕ) → lock_in n s k ≡ some l → eighth_at n s l k ≡ true → Eighth n s (figures n s l).place k
+  eighth_only : (k l : ℕ) → lock_in n s k ≡ Some l → eighth_at n s l k ≡ true → Eighth n s (figures n s l).place k
   unfolding eighth_at
   eighth_only k l e x =
       let w = found_only k l e in

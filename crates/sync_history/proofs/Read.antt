@@ -1,4 +1,7 @@
 -- What the step makes of each reading is what the rules say, as long as none before has lost. Assumes nothing.
+use Rattle.sync_heads.specs.declared.FrameHead.{FrameHead}
+use Rattle.sync_heads.specs.declared.SlotNumber.{SlotNumber}
+use Rattle.std.specs.Prelude.{None, Some, Option}
 use Prim.Native.Nat.{◌%◌, ◌-◌, ◌<◌, ◌≤◌, suc, zero, ℕ}
 use Rattle.laws.proofs.Tests.{and_both, by_test, if_both, if_either, never}
 use Rattle.laws.specs.Choice as choice
@@ -9,12 +12,8 @@ use Rattle.sync_heads.specs.Frames.{next_slot, with_sign}
 use Rattle.sync_heads.specs.Heads.{both_heads, first_of, fsync_of, fsync_taken, head_of, is_fsync, known_of, read_of, ssync_of, ssync_taken}
 use Rattle.sync_heads.specs.Words.{margin_of, said_of, side_of}
 use Rattle.sync_heads.specs.declared.Course.{Course}
-use Rattle.sync_heads.specs.declared.Headed.TheVariants.{Nothing, One}
 use Rattle.sync_heads.specs.declared.Reading.{Reading}
-use Rattle.sync_heads.specs.declared.Record.{Record}
 use Rattle.sync_heads.specs.declared.Said.{Said}
-use Rattle.sync_heads.specs.declared.Slot.TheVariants.{Unknown}
-use Rattle.sync_heads.specs.declared.Slot.{Slot}
 use Rattle.sync_heads.specs.declared.Stage.TheVariants.{Before, First, Known}
 use Rattle.sync_heads.specs.declared.Stage.{Stage}
 use Rattle.sync_heads.specs.declared.Taken.{Taken}
@@ -30,11 +29,10 @@ use lib.Dec.{eqb, ltb}
 use lib.IntN.{pos}
 use lib.Signed.{lt_z}
 use mathlib.Core.Bool.{Bool, ◌&&◌, false, not, true}
-use mathlib.Core.Option.{none, some}
 use mathlib.Core.Path.{◌∙◌, ◌≡◌, ap, refl, sym}
 use native.Mathlib.Omega.{arith}
 
-module _ (n start : ℕ) (kept : Record) (b : ℕ → Both) where
+module _ (n start : ℕ) (kept : Option FrameHead) (b : ℕ → Both) where
   -- ---- turns
   parity-small : parity b ≤ 1
   unfolding parity
@@ -86,11 +84,11 @@ module _ (n start : ℕ) (kept : Record) (b : ℕ → Both) where
   unfolding word_at is_fsync choice.when◌then◌else◌
   positive-is i e = by_test (positive_at b (suc i)) (λ t. rw (e, t) refl) (λ t. rw (e, t) refl)
 
-  head-is : (i : ℕ) (w : Said) (s : Slot) → w ≡ record { word = word_at b i; corr = corr_at b i } → s ≡ slot_at n start kept b i → head_of w (position_at n start kept b i) s ≡ head_at n start kept b i
+  head-is : (i : ℕ) (w : Said) (s : Option SlotNumber) → w ≡ record { word = word_at b i; corr = corr_at b i } → s ≡ slot_at n start kept b i → head_of w (position_at n start kept b i) s ≡ head_at n start kept b i
   unfolding head_of head_at
   head-is i w s e g = rw (e, g)
 
-  ssync-told : (i : ℕ) → ssync_at b i ≡ true → ssync_of (course_to n start kept b i) (reading i) ≡ record { lost = false; course = course_to n start kept b (suc i); head = One (head_at n start kept b i) }
+  ssync-told : (i : ℕ) → ssync_at b i ≡ true → ssync_of (course_to n start kept b i) (reading i) ≡ record { lost = false; course = course_to n start kept b (suc i); head = Some (head_at n start kept b i) }
   unfolding ssync_of
   ssync-told i e =
       let o = other_step n start kept b i (no-f i e) in
@@ -101,7 +99,7 @@ module _ (n start : ℕ) (kept : Record) (b : ℕ → Both) where
   -- an F head
   record Tells (i : ℕ) (t : Told) : Type 0 where
     lost : t.lost ≡ markers_lose b i
-    head : t.head ≡ (when markers_lose b i then Nothing else One (head_at n start kept b i))
+    head : t.head ≡ (when markers_lose b i then None else Some (head_at n start kept b i))
     on : markers_lose b i ≡ false → t.course ≡ course_to n start kept b (suc i)
     last : markers_lose b i ≡ true → t.course.last ≡ record_to n start kept b i
 
@@ -111,17 +109,17 @@ module _ (n start : ℕ) (kept : Record) (b : ℕ → Both) where
       let c = comes_to n start kept b (suc i) in
       let k = f-step n start kept b (suc i) z (f-after i e) in
       let w : Said = record { word = word_at b (suc i); corr = corr_at b (suc i) } in
-      let lost : Told = record { lost = true; course = c.course; head = Nothing } in
-      let told : Told = record { lost = false; course = c.course; head = One (head_of w (position_at n start kept b (suc i)) c.course.slot) } in
+      let lost : Told = record { lost = true; course = c.course; head = None } in
+      let told : Told = record { lost = false; course = c.course; head = Some (head_of w (position_at n start kept b (suc i)) c.course.slot) } in
       rw (said-f i e, positive-is i e)
       (if_either (Tells (suc i)) c.lost lost told
       (λ t. let m = sym k.lost ∙ t in
-      record { lost = sym m; head = sym (if_yes (markers_lose b (suc i)) Nothing (One (head_at n start kept b (suc i))) m); on = λ q. absurd (never (sym m ∙ q)); last = k.last })
+      record { lost = sym m; head = sym (if_yes (markers_lose b (suc i)) None (Some (head_at n start kept b (suc i))) m); on = λ q. absurd (never (sym m ∙ q)); last = k.last })
       (λ t. let m = sym k.lost ∙ t in
       let s : c.course.slot ≡ slot_at n start kept b (suc i) = ap (λ (x : Course). x.slot) (k.on m) ∙ slot-after (suc i) in
       record {
         lost = sym m;
-        head = ap One (head-is (suc i) w c.course.slot refl s) ∙ sym (if_no (markers_lose b (suc i)) Nothing (One (head_at n start kept b (suc i))) m);
+        head = ap Some (head-is (suc i) w c.course.slot refl s) ∙ sym (if_no (markers_lose b (suc i)) None (Some (head_at n start kept b (suc i))) m);
         on = k.on;
         last = λ q. absurd (never (sym q ∙ m));
       }))
@@ -152,7 +150,7 @@ module _ (n start : ℕ) (kept : Record) (b : ℕ → Both) where
       let m = other-keeps n start kept b (suc (suc i)) (no-f (suc (suc i)) e) in
       record {
         lost = sym m;
-        first = ap (λ (x : Told). x.head) t ∙ sym (if_no (markers_lose b (suc (suc i))) Nothing (One (head_at n start kept b (suc (suc i)))) m);
+        first = ap (λ (x : Told). x.head) t ∙ sym (if_no (markers_lose b (suc (suc i))) None (Some (head_at n start kept b (suc (suc i)))) m);
         second = refl;
         stage = rw (turn-f (suc (suc i)) e, if_yes (ssync_at b (suc (suc i))) (b (suc (suc i))).s (b (suc i)).s e) refl;
         on = λ q. ap (λ (x : Told). x.course) t;
@@ -185,7 +183,7 @@ module _ (n start : ℕ) (kept : Record) (b : ℕ → Both) where
       before i e = by_test (ssync_at b (suc i)) (λ t. t) (λ t. absurd (never (sym (turn-s (suc i) t) ∙ e)))
 
   -- head zero waits: nothing is known of it, whatever it is
-  pub course-zero : course_to n start kept b 0 ≡ record { majority = pos 0; slot = Unknown; last = kept; misses = 0; stray = 0; missed = 0 }
+  pub course-zero : course_to n start kept b 0 ≡ record { majority = pos 0; slot = None; last = kept; misses = 0; stray = 0; missed = 0 }
   unfolding course_to course_since first_to majority slot_since record_since held_since strays_to misses_to capped
   course-zero = refl
 
@@ -224,8 +222,8 @@ module _ (n start : ℕ) (kept : Record) (b : ℕ → Both) where
       let m = other-keeps n start kept b 1 (no-f 1 e.1) in
       record {
         lost = sym m;
-        first = ap (λ (x : Told). x.head) w ∙ sym (if_no (ssync_at b 0) (One (head_at n start kept b 0)) (One (head_at n start kept b 1)) e.0);
-        second = sym (if_no (ssync_at b 0) (One (head_at n start kept b 1)) Nothing e.0);
+        first = ap (λ (x : Told). x.head) w ∙ sym (if_no (ssync_at b 0) (Some (head_at n start kept b 0)) (Some (head_at n start kept b 1)) e.0);
+        second = sym (if_no (ssync_at b 0) (Some (head_at n start kept b 1)) None e.0);
         stage = rw (t, turn-f 1 e.1, if_yes (ssync_at b 1) (b 1).s (b 0).s e.1) refl;
         on = λ q. ap (λ (x : Told). x.course) w;
         last = λ q. absurd (never (sym q ∙ m));
@@ -234,7 +232,7 @@ module _ (n start : ℕ) (kept : Record) (b : ℕ → Both) where
   pub none-one : markers_lose b 1 ≡ false
   none-one = lose-none n start kept b 1 (first-waits (marked_at b) 0 none-zero (unmarked_other b 0 no-f-zero))
     where
-      none-zero : first_mark b 0 ≡ none
+      none-zero : first_mark b 0 ≡ None
       none-zero = unfold first_to in refl
 
   even-read : 0 < n → odd ≡ false → ReadIs 1 (both_heads n (reading 0) (course_to n start kept b 1) (reading 1))
@@ -246,11 +244,11 @@ module _ (n start : ℕ) (kept : Record) (b : ℕ → Both) where
       rw a
       (record {
         lost = w.lost;
-        first = sym (if_yes (ssync_at b 0) (One (head_at n start kept b 0)) (One (head_at n start kept b 1)) e.0);
+        first = sym (if_yes (ssync_at b 0) (Some (head_at n start kept b 0)) (Some (head_at n start kept b 1)) e.0);
         second =
             w.head
-            ∙ if_no (markers_lose b 1) Nothing (One (head_at n start kept b 1)) none-one
-            ∙ sym (if_yes (ssync_at b 0) (One (head_at n start kept b 1)) Nothing e.0);
+            ∙ if_no (markers_lose b 1) None (Some (head_at n start kept b 1)) none-one
+            ∙ sym (if_yes (ssync_at b 0) (Some (head_at n start kept b 1)) None e.0);
         stage = rw (t, turn-s 1 e.1, if_no (ssync_at b 1) (b 1).s (b 0).s e.1) refl;
         on = w.on;
         last = w.last;
@@ -318,11 +316,11 @@ not_false true e = absurd (never (sym e))
 not_false false e = refl
 
 module _ (b : ℕ → Both) (i : ℕ) where
-  lose-some : (f : ℕ) → first_mark b i ≡ some f → markers_lose b i ≡ ((expected f (i - 120) && not (marked_at b (i - 120))) && (expected f i && not (marked_at b i)))
+  lose-some : (f : ℕ) → first_mark b i ≡ Some f → markers_lose b i ≡ ((expected f (i - 120) && not (marked_at b (i - 120))) && (expected f i && not (marked_at b i)))
   unfolding markers_lose missed_at missed_since
   lose-some f e = rw e
 
-  lose-first : first_mark b i ≡ none → markers_lose b i ≡ false
+  lose-first : first_mark b i ≡ None → markers_lose b i ≡ false
   unfolding markers_lose missed_at missed_since
   lose-first e = rw e refl
 

@@ -1,10 +1,8 @@
 -- What is claimed of the lock, on the sizes alone, and of the heads, on the readings alone; proofs/Theorems.antt proves it. n is the period.
-use Rattle.std.specs.Prelude.{true, false, ◌≡◌, pos, ℕ, zero, suc, ◌+◌, ◌*◌, ◌/◌, ◌≤◌, ◌<◌}
-use Rattle.std.proofs.Math.Option.{some}
+use Rattle.sync_heads.specs.declared.FrameHead.{FrameHead}
+use Rattle.std.specs.Prelude.{true, false, ◌≡◌, pos, ℕ, zero, suc, ◌+◌, ◌*◌, ◌/◌, ◌≤◌, ◌<◌, Option, None, Some}
 use Rattle.laws.specs.Choice.{when◌then◌else◌}
 use Rattle.sync_corr.specs.declared.Both.{Both}
-use Rattle.sync_heads.specs.declared.Record.{Record}
-use Rattle.sync_heads.specs.declared.Slot.TheVariants.{Unknown}
 use Rattle.sync_heads.specs.declared.Stage.{Stage}
 use Rattle.sync_heads.specs.declared.Stage.TheVariants.{Before}
 use Rattle.sync_heads.specs.declared.Course.{Course}
@@ -39,10 +37,10 @@ pub record OneLock (n : ℕ) (s : ℕ → ℕ) : Type 0 where
 
 -- ---- lock and loss by periods, as functions, are lock and loss
 pub record LockFound (n : ℕ) (s : ℕ → ℕ) (k : ℕ) : Type 0 where
-  pub found : (p l : ℕ) → LockIn n s p l → l < k → (lock_in n s k ≡ some l) × ((figures n s l).place ≡ p)
-  pub found_only : (l : ℕ) → lock_in n s k ≡ some l → (l < k) × LockIn n s (figures n s l).place l
-  pub eighth : (p : ℕ) → Eighth n s p k → (l : ℕ) × (lock_in n s k ≡ some l) × (eighth_at n s l k ≡ true)
-  pub eighth_only : (l : ℕ) → lock_in n s k ≡ some l → eighth_at n s l k ≡ true → Eighth n s (figures n s l).place k
+  pub found : (p l : ℕ) → LockIn n s p l → l < k → (lock_in n s k ≡ Some l) × ((figures n s l).place ≡ p)
+  pub found_only : (l : ℕ) → lock_in n s k ≡ Some l → (l < k) × LockIn n s (figures n s l).place l
+  pub eighth : (p : ℕ) → Eighth n s p k → (l : ℕ) × (lock_in n s k ≡ Some l) × (eighth_at n s l k ≡ true)
+  pub eighth_only : (l : ℕ) → lock_in n s k ≡ Some l → eighth_at n s l k ≡ true → Eighth n s (figures n s l).place k
 
 -- ---- the lock rule over the periods: what it records after k periods is what happened
 -- the lock after k periods of which none lost
@@ -85,10 +83,10 @@ pub record MarkersTell (b : ℕ → Both) (i : ℕ) : Type 0 where
   pub loses : MarkerLoss b i → markers_lose b i ≡ true
   pub loses_only : markers_lose b i ≡ true → MarkerLoss b i
 
-module _ (n start : ℕ) (kept : Record) (b : ℕ → Both) where
+module _ (n start : ℕ) (kept : Option FrameHead) (b : ℕ → Both) where
   -- what the step makes of reading i, and what it leaves after the first i
   unfoldable pub heard_to : ℕ → Stage × Course
-  heard_to zero = (Before, record { majority = pos 0; slot = Unknown; last = kept; misses = 0; stray = 0; missed = 0 })
+  heard_to zero = (Before, record { majority = pos 0; slot = None; last = kept; misses = 0; stray = 0; missed = 0 })
   heard_to (suc i) =
       let k = read_of n (heard_to i).0 (heard_to i).1 (record { at = position_at n start kept b i; both = b i }) in
       (k.stage, k.course)
@@ -107,4 +105,4 @@ module _ (n start : ℕ) (kept : Record) (b : ℕ → Both) where
     pub missed : markers_lose b i ≡ false → (read_at i).course.missed ≡ capped (misses_to b (suc i))
 
 abbrev pub HeadsClaim : Type 0
-HeadsClaim = (n start : ℕ) (kept : Record) (b : ℕ → Both) (i : ℕ) → 0 < n → ((j : ℕ) → j < i → markers_lose b j ≡ false) → HeadsTell n start kept b i
+HeadsClaim = (n start : ℕ) (kept : Option FrameHead) (b : ℕ → Both) (i : ℕ) → 0 < n → ((j : ℕ) → j < i → markers_lose b j ≡ false) → HeadsTell n start kept b i

@@ -1,7 +1,9 @@
 -- Words, marks and numbers of the heads after a lock, and the loss by markers, on the readings alone: b i are the correlations of reading i, counted from
 -- 0. No state is recorded here. 01: "Head parity, the majority of -8..8 and frame markers follow `head_at`, `word_head`, `new_frame`".
-use Rattle.std.specs.Prelude.{ℕ, zero, suc, ◌+◌, ◌-◌, ◌*◌, ◌/◌, ◌%◌, ◌^◌, ◌<◌, min, Bool, true, false, not, ◌&&◌, ◌≡◌, eqb, leb, ltb, ℤ, pos, nat_abs, ◌+ℤ◌}
-use Rattle.std.proofs.Math.Option.{Option, none, some}
+use Rattle.sync_heads.specs.Numbers.{slot_in, last_head}
+use Rattle.sync_heads.specs.declared.FrameHead.{FrameHead}
+use Rattle.sync_heads.specs.declared.SlotNumber.{SlotNumber}
+use Rattle.std.specs.Prelude.{ℕ, zero, suc, ◌+◌, ◌-◌, ◌*◌, ◌/◌, ◌%◌, ◌^◌, ◌<◌, min, Bool, true, false, not, ◌&&◌, ◌≡◌, eqb, leb, ltb, ℤ, pos, nat_abs, ◌+ℤ◌, Option, None, Some}
 use Rattle.std.specs.Int.Signed.{lt_z}
 use Rattle.laws.specs.Choice.{when◌then◌else◌, minus}
 use Rattle.fx.specs.Cordic.{cordic_of}
@@ -9,13 +11,7 @@ use Rattle.sync_corr.specs.declared.Corr.{Corr}
 use Rattle.sync_corr.specs.declared.Both.{Both}
 use Rattle.sync_heads.specs.declared.Word.{Word}
 use Rattle.sync_heads.specs.declared.Word.TheVariants.{Ssync, Fsync, NotFsync}
-use Rattle.sync_heads.specs.declared.Slot.{Slot}
-use Rattle.sync_heads.specs.declared.Slot.TheVariants.{Unknown, In}
-use Rattle.sync_heads.specs.declared.Record.{Record}
-use Rattle.sync_heads.specs.declared.Record.TheVariants.{Last}
 use Rattle.sync_heads.specs.declared.Head.{Head}
-use Rattle.sync_heads.specs.declared.Headed.{Headed}
-use Rattle.sync_heads.specs.declared.Headed.TheVariants.{Nothing, One}
 use Rattle.sync_heads.specs.Words.{margin_of, side_of, negated}
 use Rattle.sync_heads.specs.Frames.{frame_of}
 use Rattle.sync_history.specs.History.{first_to}
@@ -35,8 +31,11 @@ capped k = min (2 ^ 32 - 1) k
 module _ (b : ℕ → Both) where
   -- ---- words
   -- "head 0 carries SSync when its S-minus-F margin is the larger", and with it the even heads; if head one's margin is larger the odd heads do
+  abbrev pub ssync_odd : Bool
+  ssync_odd = lt_z (margin_of (b 0)) (margin_of (b 1))
+
   unfoldable pub parity : ℕ
-  parity = when lt_z (margin_of (b 0)) (margin_of (b 1)) then 1 else 0
+  parity = when ssync_odd then 1 else 0
 
   unfoldable pub ssync_at : ℕ → Bool
   ssync_at i = eqb (i % 2) parity
@@ -92,8 +91,8 @@ module _ (b : ℕ → Both) where
 
   -- .. the same, as functions
   unfoldable pub missed_since : Option ℕ → ℕ → Bool
-  missed_since none i = false
-  missed_since (some f) i = expected f i && not (marked_at i)
+  missed_since None i = false
+  missed_since (Some f) i = expected f i && not (marked_at i)
 
   unfoldable pub missed_at : ℕ → Bool
   missed_at i = missed_since (first_mark i) i
@@ -104,8 +103,8 @@ module _ (b : ℕ → Both) where
   -- ---- what the two counters count, of the first i heads
   -- a mark where none is expected, once the numbers have begun
   unfoldable pub stray_since : Option ℕ → ℕ → Bool
-  stray_since none i = false
-  stray_since (some f) i = marked_at i && not (expected f i)
+  stray_since None i = false
+  stray_since (Some f) i = marked_at i && not (expected f i)
 
   unfoldable pub stray_at : ℕ → Bool
   stray_at i = stray_since (first_mark i) i
@@ -119,7 +118,7 @@ module _ (b : ℕ → Both) where
   misses_to (suc i) = misses_to i + (when missed_at i then 1 else 0)
 
 -- ---- numbers: n is the period, `start` the position of reading 0, `kept` the frame record from before the lock
-module _ (n start : ℕ) (kept : Record) (b : ℕ → Both) where
+module _ (n start : ℕ) (kept : Option FrameHead) (b : ℕ → Both) where
   -- readings stand a period apart
   unfoldable pub position_at : ℕ → ℕ
   position_at i = start + i * n
@@ -130,22 +129,22 @@ module _ (n start : ℕ) (kept : Record) (b : ℕ → Both) where
   frame_at f i = (frame_of n (position_at f) kept + (i - f) / 120) % 2 ^ 32
 
   -- head i counts from the first marked one, modulo 120; before there are no numbers
-  unfoldable pub slot_since : Option ℕ → ℕ → Slot
-  slot_since none i = Unknown
-  slot_since (some f) i = In ((i - f) % 120) (frame_at f i)
+  unfoldable pub slot_since : Option ℕ → ℕ → Option SlotNumber
+  slot_since None i = None
+  slot_since (Some f) i = slot_in ((i - f) % 120) (frame_at f i)
 
-  unfoldable pub slot_at : ℕ → Slot
+  unfoldable pub slot_at : ℕ → Option SlotNumber
   slot_at i = slot_since (first_mark b (suc i)) i
 
   -- the last frame head up to head i, and the frame record: that of the last frame head among the first i heads
   abbrev pub frame_head : ℕ → ℕ → ℕ
   frame_head f i = f + (i - f) / 120 * 120
 
-  unfoldable pub record_since : Option ℕ → ℕ → Record
-  record_since none i = kept
-  record_since (some f) i = Last (position_at (frame_head f (i - 1))) (frame_at f (i - 1))
+  unfoldable pub record_since : Option ℕ → ℕ → Option FrameHead
+  record_since None i = kept
+  record_since (Some f) i = last_head (position_at (frame_head f (i - 1))) (frame_at f (i - 1))
 
-  unfoldable pub record_to : ℕ → Record
+  unfoldable pub record_to : ℕ → Option FrameHead
   record_to i = record_since (first_mark b i) i
 
   -- ---- heads as told
@@ -156,12 +155,12 @@ module _ (n start : ℕ) (kept : Record) (b : ℕ → Both) where
       record { at = position_at i; word = word_at b i; corr = c; theta = p.angle; amp = p.size; slot = slot_at i; nco_phase = 0 }
 
   -- the heads that reading i tells, in order: head zero "waits for head one, and stays silent if it is no Ssync"; a reading that loses tells none
-  unfoldable pub first_told : ℕ → Headed
-  first_told zero = Nothing
-  first_told (suc zero) = when ssync_at b 0 then One (head_at 0) else One (head_at 1)
-  first_told (suc (suc i)) = when markers_lose b (suc (suc i)) then Nothing else One (head_at (suc (suc i)))
+  unfoldable pub first_told : ℕ → Option Head
+  first_told zero = None
+  first_told (suc zero) = when ssync_at b 0 then Some (head_at 0) else Some (head_at 1)
+  first_told (suc (suc i)) = when markers_lose b (suc (suc i)) then None else Some (head_at (suc (suc i)))
 
-  unfoldable pub second_told : ℕ → Headed
-  second_told zero = Nothing
-  second_told (suc zero) = when ssync_at b 0 then One (head_at 1) else Nothing
-  second_told (suc (suc i)) = Nothing
+  unfoldable pub second_told : ℕ → Option Head
+  second_told zero = None
+  second_told (suc zero) = when ssync_at b 0 then Some (head_at 1) else None
+  second_told (suc (suc i)) = None

@@ -1,6 +1,5 @@
 -- The lock and its loss, on the sizes of the positions alone: s i is the size of position i, n the period (9,296). No state is recorded here.
-use Rattle.std.specs.Prelude.{◌≢◌, ◌≡◌, Bool, true, not, ◌&&◌, eqb, leb, ℕ, zero, suc, ◌+◌, ◌-◌, ◌*◌, ◌%◌, ◌≤◌, ◌<◌}
-use Rattle.std.proofs.Math.Option.{Option, none, some}
+use Rattle.std.specs.Prelude.{◌≢◌, ◌≡◌, Bool, true, not, ◌&&◌, eqb, leb, ℕ, zero, suc, ◌+◌, ◌-◌, ◌*◌, ◌%◌, ◌≤◌, ◌<◌, Option, None, Some}
 use Rattle.laws.specs.Choice.{when◌then◌else◌}
 use Rattle.sync_lock.specs.Period.{leak_of, no_tally, added_of, counts_of}
 use Rattle.sync_lock.specs.declared.Tally.{Tally}
@@ -70,12 +69,12 @@ pub record LossBy (n : ℕ) (s : ℕ → ℕ) (m : ℕ) : Type 0 where
 -- ---- lock and loss, as functions of the periods
 -- the first of 0 .. i - 1 that passes a test
 unfoldable pub earlier : Option ℕ → Option ℕ → Option ℕ
-earlier (some f) x = some f
-earlier none x = x
+earlier (Some f) x = Some f
+earlier None x = x
 
 unfoldable pub first_to : (ℕ → Bool) → ℕ → Option ℕ
-first_to t zero = none
-first_to t (suc i) = earlier (first_to t i) (when t i then some i else none)
+first_to t zero = None
+first_to t (suc i) = earlier (first_to t i) (when t i then Some i else None)
 
 -- period k counts, with its peak at p
 unfoldable pub counts_at : ℕ → (ℕ → ℕ) → ℕ → ℕ → Bool

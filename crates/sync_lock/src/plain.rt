@@ -1,4 +1,6 @@
 // What the crates above share and needs nothing of its caller.
+#![tactic(auto, unfolding(crate::specs::Period::leak_of, crate::specs::Rule::lock_after, crate::specs::Rule::locked_at, crate::specs::Ranges::tally_in_range, crate::specs::Ranges::lock_in_range))]
+
 ghost use Rattle.std.specs.Prelude.{◌≡◌, ◌+◌, ◌*◌, ◌<◌};
 ghost use Rattle.sync_lock.specs.Period.{leak_of};
 ghost use Rattle.sync_lock.specs.Rule.{lock_after, locked_at};
@@ -18,18 +20,9 @@ pub fn lock_after(v: Verdict) -> Lock
     ensures { result ≡ lock_after v }
 {
     match v {
-        Verdict::Seeks { cand, count } => Lock::Search {
-            cand: cand,
-            count: count,
-        },
-        Verdict::Locks { offset } => Lock::Locked {
-            offset: offset,
-            misses: 0,
-        },
-        Verdict::Holds { offset, misses } => Lock::Locked {
-            offset: offset,
-            misses: misses,
-        },
+        Verdict::Seeks { cand, count } => Lock::Search { cand, count },
+        Verdict::Locks { offset } => Lock::Locked { offset, misses: 0 },
+        Verdict::Holds { offset, misses } => Lock::Locked { offset, misses },
         Verdict::Loses => Lock::Search { cand: 0, count: 0 },
     }
 }

@@ -1,4 +1,6 @@
 // For the slot sync, which proves the ranges.
+#![tactic(auto, using(laws::specs::Choice::cases), unfolding(crate::specs::Period::counts_of, crate::specs::Rule::sought_of, crate::specs::Rule::search_of, crate::specs::Rule::held_of, crate::specs::Rule::rule_of))]
+
 ghost use Rattle.std.specs.Prelude.{◌≡◌, ◌+◌, ◌*◌, ◌≤◌, ◌<◌, ◌^◌};
 ghost use Rattle.sync_lock.specs.Period.{counted_of, counts_of};
 ghost use Rattle.sync_lock.specs.Rule.{sought_of, search_of, held_of, rule_of};
@@ -25,9 +27,8 @@ pub fn counted(t: Tally, p: usize, a: u32) -> Tally
         }
     } else {
         Tally {
-            peak: t.peak,
-            place: t.place,
             sum: t.sum + (a as u64),
+            ..t
         }
     }
 }
@@ -71,13 +72,10 @@ fn held(good: bool, offset: u16, misses: u32) -> Verdict
     ensures { result ≡ held_of good offset misses }
 {
     if good {
-        Verdict::Holds {
-            offset: offset,
-            misses: 0,
-        }
+        Verdict::Holds { offset, misses: 0 }
     } else if misses < 7 {
         Verdict::Holds {
-            offset: offset,
+            offset,
             misses: misses + 1,
         }
     } else {

@@ -1,5 +1,8 @@
 -- One reading, number h since the lock: stage and course stay within what h + 1 heads allow. A mark needs a majority of 2, which two F heads
 -- make: so it stands at head five or later. Assumes nothing.
+use Rattle.std.specs.Prelude.{Option, None, Some}
+use Rattle.sync_heads.specs.Numbers.{last_head}
+use Rattle.sync_heads.specs.declared.SlotNumber.{SlotNumber}
 use Prim.Native.Nat.{◌%◌, ◌+◌, ◌-◌, ◌/◌, ◌≤◌, suc, ℕ}
 use Rattle.laws.proofs.Linear.{dif_ud, size_le, size_ud, sum_ud, test_le, test_lt}
 use Rattle.laws.proofs.Size.{abs_add, abs_sub}
@@ -13,9 +16,6 @@ use Rattle.sync_heads.specs.declared.Course.{Course}
 use Rattle.sync_heads.specs.declared.Marked.{Marked}
 use Rattle.sync_heads.specs.declared.Parity.{Parity}
 use Rattle.sync_heads.specs.declared.Reading.{Reading}
-use Rattle.sync_heads.specs.declared.Record.TheVariants.{Last}
-use Rattle.sync_heads.specs.declared.Slot.TheVariants.{In, Unknown}
-use Rattle.sync_heads.specs.declared.Slot.{Slot}
 use Rattle.sync_heads.specs.declared.Stage.{Stage}
 use Rattle.sync_heads.specs.declared.Taken.{Taken}
 use Rattle.sync_heads.specs.declared.Told.{Told}
@@ -79,28 +79,28 @@ marks_two positive m =
     (λ t. omega (arith, test_lt (pos 1) m t, size_ud m))
 
 -- ---- the slot
-next_slot_fits : (h misses : ℕ) (k : Slot) → SlotFits h misses k → SlotFits h misses (next_slot k)
+next_slot_fits : (h misses : ℕ) (k : Option SlotNumber) → SlotFits h misses k → SlotFits h misses (next_slot k)
 unfolding next_slot
-next_slot_fits h misses Unknown g = g
-next_slot_fits h misses (In number frame) g = record { within = omega arith; few = g.few; heads = g.heads }
+next_slot_fits h misses None g = g
+next_slot_fits h misses (Some s) g = record { within = omega arith; few = g.few; heads = g.heads }
 
-later_slot : (h misses : ℕ) (k : Slot) → SlotFits h misses k → SlotFits (suc h) misses k
-later_slot h misses Unknown g = g
-later_slot h misses (In number frame) g = record { within = g.within; few = g.few; heads = omega (arith, g.heads) }
+later_slot : (h misses : ℕ) (k : Option SlotNumber) → SlotFits h misses k → SlotFits (suc h) misses k
+later_slot h misses None g = g
+later_slot h misses (Some s) g = record { within = g.within; few = g.few; heads = omega (arith, g.heads) }
 
-due_heads : (h misses : ℕ) (k : Slot) → SlotFits h misses k → frame_due k ≡ true → 6 ≤ h
+due_heads : (h misses : ℕ) (k : Option SlotNumber) → SlotFits h misses k → frame_due k ≡ true → 6 ≤ h
 unfolding frame_due
-due_heads h misses Unknown g e = absurd (never (sym e))
-due_heads h misses (In number frame) g e = g.heads
+due_heads h misses None g e = absurd (never (sym e))
+due_heads h misses (Some s) g e = g.heads
 
-slot_misses : (h misses : ℕ) (k : Slot) → SlotFits h misses k → misses ≤ 1
-slot_misses h misses Unknown g = omega arith
-slot_misses h misses (In number frame) g = g.few
+slot_misses : (h misses : ℕ) (k : Option SlotNumber) → SlotFits h misses k → misses ≤ 1
+slot_misses h misses None g = omega arith
+slot_misses h misses (Some s) g = g.few
 
 -- ---- the course
 -- a record made at the position of head h is in range from head five on
 abbrev Marks : ℕ → ℕ → Type 0
-Marks h at = 5 ≤ h → (f : ℕ) → record_in_range (Last at f) ≡ true
+Marks h at = 5 ≤ h → (f : ℕ) → record_in_range (last_head at f) ≡ true
 
 later-course : (h m i : ℕ) (c : Course) → m ≤ i → CourseFits h m c → CourseFits (suc h) i c
 later-course h m i c l g = record { majority = omega (arith, g.majority); clamped = g.clamped; slot = later_slot h c.misses c.slot g.slot; last = g.last }
@@ -261,7 +261,7 @@ known_fits n b h p c r s g u k =
 -- any reading
 pub read_fits : (n : ℕ) (b : Bound) (h : ℕ) (s : Stage) (c : Course) (r : Reading) → StageFits b h s → CourseFits h (f_heads_of h s) c →
     ReadingFits b r →
-    (5 ≤ h → (f : ℕ) → record_in_range (Last r.at f) ≡ true) → StageFits b (suc h) (read_of n s c r).stage ×
+    (5 ≤ h → (f : ℕ) → record_in_range (last_head r.at f) ≡ true) → StageFits b (suc h) (read_of n s c r).stage ×
     CourseFits (suc h) (f_heads_of (suc h) (read_of n s c r).stage) (read_of n s c r).course
 unfolding read_of
 read_fits n b h Before c r s g u k = before_fits n b h c r s g u

@@ -1,4 +1,7 @@
 -- A sync that starts is coherent, and so is what one symbol leaves. Assumes nothing.
+use Rattle.std.specs.Prelude.{Option}
+use Rattle.sync_heads.specs.Numbers.{last_head}
+use Rattle.sync_heads.specs.declared.FrameHead.{FrameHead}
 use Prim.Native.Nat.{◌*◌, ◌+◌, ◌-◌, ◌<◌, ◌^◌, ◌≤◌, suc, ℕ}
 use Rattle.laws.proofs.Tests.{if_both, if_either}
 use Rattle.sync.specs.Sync.{kept_window, started_sync}
@@ -6,8 +9,6 @@ use Rattle.sync.specs.declared.SlotSync.{SlotSync}
 use Rattle.sync_corr.specs.Correlate.{size_of}
 use Rattle.sync_corr.specs.declared.Both.{Both}
 use Rattle.sync_heads.specs.Ranges.{record_in_range}
-use Rattle.sync_heads.specs.declared.Record.TheVariants.{Last}
-use Rattle.sync_heads.specs.declared.Record.{Record}
 use Rattle.sync_heads.specs.declared.Taken.{Taken}
 use Rattle.sync_lock.specs.Period.{counted_of, leak_of}
 use Rattle.sync_lock.specs.Rule.{lock_after, locked_at, rule_of}
@@ -33,7 +34,7 @@ use native.Mathlib.Omega.{arith}
 use Rattle.sync_step.specs.declared.Step.{Step}
 
 -- ---- a start: "keeps the last frame record"
-pub started_coherent : (b : Bound) (at : ℕ) (last : Record) → record_in_range last ≡ true → Coherent b (started_sync at last)
+pub started_coherent : (b : Bound) (at : ℕ) (last : Option FrameHead) → record_in_range last ≡ true → Coherent b (started_sync at last)
 unfolding started_sync started_of
 started_coherent b at last e =
     record {
@@ -54,7 +55,7 @@ unfolding reading_of
 reading_fits b h r x g l u k = record { low = omega arith; high = omega arith; f = g.f; s = g.s }
 
 record_fits : (h : ℕ) (r : Run) (x : Both) → 23 ≤ r.t → r.base + r.t < 2 ^ 62 → (4 + h) * 9296 ≤ r.t - 23 → 5 ≤ h → (f : ℕ) →
-    record_in_range (Last (reading_of r x).at f) ≡ true
+    record_in_range (last_head (reading_of r x).at f) ≡ true
 unfolding reading_of record_in_range
 record_fits h r x l u k j f = rw (le-leb 83664 (r.base + r.t - 23) (omega arith), le-leb (r.base + r.t - 23) (2 ^ 62 - 24) (omega arith))
 
@@ -82,11 +83,11 @@ taken_fits b s x c g l u =
 abbrev Good : Bound → List ℤ → Step → Type 0
 Good b w x = Coherent b (record { win = kept_window x.stores w; run = x.run })
 
-lost_good : (b : Bound) (at : ℕ) (w : List ℤ) (last : Record) (es : Events) → record_in_range last ≡ true → Good b w (lost_of at last es)
+lost_good : (b : Bound) (at : ℕ) (w : List ℤ) (last : Option FrameHead) (es : Events) → record_in_range last ≡ true → Good b w (lost_of at last es)
 unfolding lost_of kept_window started_sync
 lost_good b at w last es e = started_coherent b at last e
 
-lost_end_good : (b : Bound) (at : ℕ) (w : List ℤ) (last : Record) (es : Events) → record_in_range last ≡ true → Good b w (lost_at_end at last es)
+lost_end_good : (b : Bound) (at : ℕ) (w : List ℤ) (last : Option FrameHead) (es : Events) → record_in_range last ≡ true → Good b w (lost_at_end at last es)
 unfolding lost_at_end lost_of kept_window started_sync
 lost_end_good b at w last es e = started_coherent b at last e
 

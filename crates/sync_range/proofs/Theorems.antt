@@ -1,16 +1,20 @@
 -- Calls keep a slot sync coherent, so its numbers stay in range and no call is refused with 6. Assumes nothing.
+use Rattle.std.specs.Prelude.{Option, None, Some, Result, Ok, Err, IfOk, is_some, ⊤}
+use Rattle.sync_heads.specs.declared.SlotNumber.{SlotNumber}
 use Prim.Native.Nat.{◌+◌, ◌<◌, ◌^◌, ◌≤◌, suc, ℕ}
 use Rattle.laws.proofs.Tests.{and_both, if_both, if_either, never}
-use Rattle.sync.specs.Answers.{accepted_push, new_answer, push_answer, push_refusal, refused_push, restart_answer, restart_refusal}
+use Rattle.sync.specs.Answers.{accepted_push, new_answer, push_answer, push_refusal, restart_answer, restart_refusal, sync_left}
+use Rattle.laws.proofs.Taken.{err_not_ok, ok_no, ok_yes}
+use Rattle.refusal.proofs.Answered.{answered_both, answered_either}
+use Rattle.refusal.specs.Refusals.{answered, code_of, number_of, state_after}
+use Rattle.refusal.specs.declared.Refusal.{Refusal}
+use Rattle.refusal.specs.declared.Refusal.TheVariants.{Stores, Words, Arithmetic, Position}
+use Rattle.refusal.specs.declared.Refused.{Refused}
 use Rattle.sync.specs.Sync.{started_sync, symbol_of, window_after}
 use Rattle.sync.specs.declared.Pushed.{Pushed}
 use Rattle.sync.specs.declared.SlotSync.{SlotSync}
-use Rattle.sync.specs.declared.Started.{Started}
 use Rattle.sync_corr.specs.Correlate.{both_of, ones_of}
 use Rattle.sync_heads.specs.Ranges.{record_in_range}
-use Rattle.sync_heads.specs.declared.Record.TheVariants.{Never}
-use Rattle.sync_heads.specs.declared.Slot.TheVariants.{In, Unknown}
-use Rattle.sync_heads.specs.declared.Slot.{Slot}
 use Rattle.sync_heads.specs.declared.Stage.TheVariants.{Before, First, Known}
 use Rattle.sync_heads.specs.declared.Stage.{Stage}
 use Rattle.sync_lock.specs.declared.Lock.TheVariants.{Locked, Search}
@@ -20,7 +24,7 @@ use Rattle.sync_range.proofs.Steps.{started_coherent, step_good}
 use Rattle.sync_range.proofs.Tally.{place_most}
 use Rattle.sync_range.proofs.Window.{window_after_fits}
 use Rattle.sync_range.proofs.Within.{coherent_in_range}
-use Rattle.sync_range.specs.Calls.{Call, CallFits, CallsFit, CallsKeep, Figures, Keeps, PushFits, refusal_of, sync_after, sync_of}
+use Rattle.sync_range.specs.Calls.{Call, CallFits, CallsFit, CallsKeep, Figures, Keeps, PushFits, Sound, refused_for, refusal_of, sync_after, sync_of}
 use Rattle.sync_range.specs.Coherent.{Bound, Coherent, Fresh, LockFits, Short, SlotFits, StageFits, any16, f_heads_of, most_of, rotated}
 use Rattle.sync_step.specs.Ranges.{run_in_range}
 use Rattle.sync_step.specs.Step.{is_locked, place_of}
@@ -37,11 +41,10 @@ use native.Mathlib.Omega.{arith}
 use Rattle.sync_range.specs.Calls.{push, restart}
 
 -- ---- a new sync, and one restarted: at any position
-pub new_coherent : (b : Bound) (at : ℕ) (acc : List ℕ) → Coherent b (new_answer at acc).sync
-unfolding new_answer
-new_coherent b at acc = let c = started_coherent b at Never never-fits in if_both (λ (x : Started). Coherent b x.sync) _ _ _ c c
+pub new_coherent : (b : Bound) (at : ℕ) → Coherent b (started_sync at None)
+new_coherent b at = started_coherent b at None never-fits
   where
-    never-fits : record_in_range Never ≡ true
+    never-fits : record_in_range None ≡ true
     never-fits = unfold record_in_range in refl
 
 pub restart_coherent : (b : Bound) (s : SlotSync) (at : ℕ) → Coherent b s → Coherent b (started_sync at s.run.course.last)
@@ -66,32 +69,23 @@ apart k e = omega arith
 abbrev Accepts : ℕ → List ℤ → List ℤ → Run → Type 0
 Accepts len f w r = (len ≡ 9296) × (ones_of f ≡ true) × (ones_of w ≡ true) × (r.base + r.t < 2 ^ 62)
 
-push_accepts : (len : ℕ) (f w : List ℤ) (r : Run) → push_refusal len f w r ≡ 0 → Accepts len f w r
+push_accepts : (len : ℕ) (f w : List ℤ) (r : Run) → push_refusal len f w r ≡ Ok tt → Accepts len f w r
 unfolding push_refusal
-push_accepts len f w r =
-    if_either Zero (eqb len 9296) _ _
-    (λ a.
-    if_either Zero (ones_of f && ones_of w) _ _
-    (λ o.
-    if_both Zero (run_in_range r) _ _
-    (if_either Zero (leb (2 ^ 62) (r.base + r.t)) _ _
-    (λ u z. absurd (apart 6 z))
-    (λ u z. let h = and_both (ones_of f) (ones_of w) o in (eqb-true len 9296 a, h.0, h.1, leb-false (2 ^ 62) (r.base + r.t) u)))
-    (λ z. absurd (apart 5 z)))
-    (λ o z. absurd (apart 1 z)))
-    (λ a z. absurd (apart 0 z))
-  where
-    Zero : ℕ → Type 0
-    Zero x = x ≡ 0 → Accepts len f w r
+push_accepts len f w r h =
+    let a = ok_yes (eqb len 9296) _ Stores h in
+    let o = ok_yes (ones_of f && ones_of w) _ Words a.1 in
+    let u = ok_no (leb (2 ^ 62) (r.base + r.t)) Position _ (ok_yes (run_in_range r) _ Arithmetic o.1).1 in
+    let v = and_both (ones_of f) (ones_of w) o.0 in
+    (eqb-true len 9296 a.0, v.0, v.1, leb-false (2 ^ 62) (r.base + r.t) u.0)
 
 pub answer_coherent : (b : Bound) (s : SlotSync) (c : Call) → Coherent b s → CallFits b c → Coherent b (sync_of s c)
-unfolding sync_of push_answer refused_push restart_answer
+unfolding sync_of push_answer restart_answer
 answer_coherent b s (push i q f w acc) h p =
-    let n = push_refusal (length acc) f w s.run in
-    if_either (λ (x : Pushed). Coherent b x.sync) (eqb n 0) _ _
-    (λ e. let a = push_accepts (length acc) f w s.run (eqb-true n 0 e) in push_coherent b s i q f w acc h p a.1 a.2 a.0 a.3)
-    (λ e. h)
-answer_coherent b s (restart at acc) h p = if_both (λ (x : Started). Coherent b x.sync) _ _ _ (restart_coherent b s at h) h
+    answered_either (λ (x : Result Pushed (Refused SlotSync)). Coherent b (sync_left x)) (push_refusal (length acc) f w s.run) s _
+    (λ e. let a = push_accepts (length acc) f w s.run e in push_coherent b s i q f w acc h p a.1 a.2 a.0 a.3)
+    (λ why e. h)
+answer_coherent b s (restart at acc) h p =
+    answered_both (λ (x : Result SlotSync (Refused SlotSync)). Coherent b (state_after x)) (restart_refusal (length acc) at s.run) s _ (restart_coherent b s at h) (λ why. h)
 
 pub answers_coherent : (b : Bound) (s : SlotSync) (cs : List Call) → Coherent b s → CallsFit b cs → Coherent b (sync_after s cs)
 unfolding sync_after
@@ -99,30 +93,43 @@ answers_coherent b s [] h p = h
 answers_coherent b s (c ∷ cs) h p = answers_coherent b (sync_of s c) cs (answer_coherent b s c h p.0) p.1
 
 -- ---- in range, no call answers 6
-push_not_6 : (len : ℕ) (f w : List ℤ) (r : Run) → run_in_range r ≡ true → push_refusal len f w r ≡ 6 → ⊥
+-- a refusal that is none for the state's numbers
+abbrev Not6 : Result ⊤ Refusal → Type 0
+Not6 x = x ≡ Err Arithmetic → ⊥
+
+other : (why : Refusal) → eqb (number_of why) 6 ≡ false → Not6 (Err why)
+other why k z = never (sym (ap (λ (x : Result ⊤ Refusal). eqb (code_of x) 6) z) ∙ k)
+
+taken : Not6 (Ok tt)
+taken z = err_not_ok (sym z)
+
+none_some : {A : Type 0} {x : A} → None ≡ Some x → ⊥
+none_some z = never (ap is_some (sym z))
+
+same_some : {A : Type 0} {x y : A} → Some x ≡ Some y → x ≡ y
+same_some z = cc
+
+push_not_6 : (len : ℕ) (f w : List ℤ) (r : Run) → run_in_range r ≡ true → Not6 (push_refusal len f w r)
 unfolding push_refusal
 push_not_6 len f w r e =
     if_both Not6 _ _ _
-    (if_both Not6 _ _ _ (if_either Not6 (run_in_range r) _ _ (λ u. if_both Not6 _ _ _ (λ z. omega arith) (λ z. omega arith)) (λ u. absurd (never (sym e ∙ u)))) (λ z. omega arith))
-    (λ z. omega arith)
-  where
-    Not6 : ℕ → Type 0
-    Not6 x = x ≡ 6 → ⊥
+    (if_both Not6 _ _ _ (if_either Not6 (run_in_range r) _ _ (λ u. if_both Not6 _ _ _ (other Position refl) taken) (λ u. absurd (never (sym e ∙ u)))) (other Words refl))
+    (other Stores refl)
 
-restart_not_6 : (len at : ℕ) (r : Run) → run_in_range r ≡ true → restart_refusal len at r ≡ 6 → ⊥
+restart_not_6 : (len at : ℕ) (r : Run) → run_in_range r ≡ true → Not6 (restart_refusal len at r)
 unfolding restart_refusal
 restart_not_6 len at r e =
-    if_both Not6 _ _ _ (if_either Not6 (run_in_range r) _ _ (λ u. if_both Not6 _ _ _ (λ z. omega arith) (λ z. omega arith)) (λ u. absurd (never (sym e ∙ u)))) (λ z. omega arith)
-  where
-    Not6 : ℕ → Type 0
-    Not6 x = x ≡ 6 → ⊥
+    if_both Not6 _ _ _ (if_either Not6 (run_in_range r) _ _ (λ u. if_both Not6 _ _ _ (other Position refl) taken) (λ u. absurd (never (sym e ∙ u)))) (other Stores refl)
 
-never_6 : (s : SlotSync) (c : Call) → run_in_range s.run ≡ true → refusal_of s c ≡ 6 → ⊥
-unfolding refusal_of push_answer accepted_push refused_push restart_answer
-never_6 s (push i q f w acc) e =
-    if_both (λ (x : Pushed). x.refusal ≡ 6 → ⊥) _ _ _ (λ z. omega arith) (push_not_6 (length acc) f w s.run e)
-never_6 s (restart at acc) e =
-    if_both (λ (x : Started). x.refusal ≡ 6 → ⊥) _ _ _ (λ z. omega arith) (restart_not_6 (length acc) at s.run e)
+-- an answer refuses for what its test refuses
+answer_not_6 : {T : Type 0} (r : Result ⊤ Refusal) (s : SlotSync) (a : T) → Not6 r → refused_for (answered r s a) ≡ Some Arithmetic → ⊥
+answer_not_6 (Ok x) s a h z = none_some z
+answer_not_6 (Err why) s a h z = h (ap Err (same_some z))
+
+never_6 : (s : SlotSync) (c : Call) → run_in_range s.run ≡ true → refusal_of s c ≡ Some Arithmetic → ⊥
+unfolding refusal_of push_answer restart_answer
+never_6 s (push i q f w acc) e = answer_not_6 (push_refusal (length acc) f w s.run) s _ (push_not_6 (length acc) f w s.run e)
+never_6 s (restart at acc) e = answer_not_6 (restart_refusal (length acc) at s.run) s _ (restart_not_6 (length acc) at s.run e)
 
 -- ---- not locked, nothing is read
 lock_none : (t h : ℕ) (k : Lock) → LockFits t h k → is_locked k ≡ false → h ≡ 0
@@ -138,9 +145,9 @@ stage_none b h (Known p) g e = absurd (two h g.heads e)
     two : (h : ℕ) → 2 ≤ h → h ≡ 0 → ⊥
     two h l e = omega arith
 
-slot_none : (h misses : ℕ) (k : Slot) → SlotFits h misses k → h ≡ 0 → (k ≡ Unknown) × (misses ≡ 0)
-slot_none h misses Unknown g e = (refl, g)
-slot_none h misses (In number frame) g e = absurd (six h g.heads e)
+slot_none : (h misses : ℕ) (k : Option SlotNumber) → SlotFits h misses k → h ≡ 0 → (k ≡ None) × (misses ≡ 0)
+slot_none h misses None g e = (refl, g)
+slot_none h misses (Some s) g e = absurd (six h g.heads e)
   where
     six : (h : ℕ) → 6 ≤ h → h ≡ 0 → ⊥
     six h l e = omega arith
@@ -181,11 +188,16 @@ keeps b =
     }
 
 pub calls_keep : CallsKeep
+unfolding new_answer
 calls_keep b at acc cs l p =
-    let s = sync_after (new_answer at acc).sync cs in
-    let h = answers_coherent b (new_answer at acc).sync cs (new_coherent b at acc) p in
-    let r = coherent_in_range b s l h in
-    record { coherent = h; in_range = r; never_6 = λ c. never_6 s c r }
+    let k : Sound b (sync_after (started_sync at None) cs) = sound (started_sync at None) (new_coherent b at) in
+    (k, if_both (λ (x : Result SlotSync Refusal). IfOk x (λ s. Sound b (sync_after s cs))) (eqb (length acc) 9296) _ _ k tt)
+  where
+    sound : (s : SlotSync) → Coherent b s → Sound b (sync_after s cs)
+    sound s c =
+        let h = answers_coherent b s cs c p in
+        let r = coherent_in_range b (sync_after s cs) l h in
+        record { coherent = h; in_range = r; never_6 = λ c. never_6 (sync_after s cs) c r }
 
 -- ---- the two bounds, and docs/RANGES.md's figures for them
 pub any16_short : Short any16

@@ -1,4 +1,6 @@
 -- What is coherent is in range: docs/RANGES.md, "Slot sync". Assumes nothing.
+use Rattle.std.specs.Prelude.{Option, None, Some}
+use Rattle.sync_heads.specs.declared.SlotNumber.{SlotNumber}
 use Prim.Native.Nat.{◌*◌, ◌+◌, ◌-◌, ◌<◌, ◌^◌, ◌≤◌, suc, zero, ℕ}
 use Rattle.sync.specs.declared.SlotSync.{SlotSync}
 use Rattle.sync_corr.specs.Rows.{Bounded}
@@ -8,8 +10,6 @@ use Rattle.sync_heads.specs.Ranges.{both_in_range, corr_in_range, course_in_rang
 use Rattle.sync_heads.specs.Ready.{SlotOk}
 use Rattle.sync_heads.specs.declared.Course.{Course}
 use Rattle.sync_heads.specs.declared.Reading.{Reading}
-use Rattle.sync_heads.specs.declared.Slot.TheVariants.{In, Unknown}
-use Rattle.sync_heads.specs.declared.Slot.{Slot}
 use Rattle.sync_heads.specs.declared.Stage.TheVariants.{Before, First, Known}
 use Rattle.sync_heads.specs.declared.Stage.{Stage}
 use Rattle.sync_lock.specs.Ranges.{lock_in_range, tally_in_range}
@@ -67,9 +67,9 @@ stage_in_range_lem b h (First z) l g = reading_in_range_lem b z l g.1
 stage_in_range_lem b h (Known p) l g = corr_in_range_lem b p.last l g.last
 
 -- ---- course
-slot_ok : (h misses : ℕ) (k : Slot) → SlotFits h misses k → SlotOk k × (misses < 2)
-slot_ok h misses Unknown g = (tt, omega arith)
-slot_ok h misses (In number frame) g = (omega (arith, g.within), omega (arith, g.few))
+slot_ok : (h misses : ℕ) (k : Option SlotNumber) → SlotFits h misses k → SlotOk k × (misses < 2)
+slot_ok h misses None g = (tt, omega arith)
+slot_ok h misses (Some s) g = (omega (arith, g.within), omega (arith, g.few))
 
 course_in_range_lem : (h m : ℕ) (c : Course) → CourseFits h m c → course_in_range c ≡ true
 course_in_range_lem h m c g =

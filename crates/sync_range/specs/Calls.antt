@@ -1,13 +1,17 @@
 -- Calls one after another, from a new sync on.
-use Rattle.std.specs.Prelude.{◌≡◌, true, false, List, [], ◌∷◌, ℕ, ◌+◌, ◌*◌, ◌^◌, ◌≤◌, ◌<◌, ℤ, nat_abs, length, get_or}
+use Rattle.sync_heads.specs.declared.FrameHead.{FrameHead}
+use Rattle.std.specs.Prelude.{◌≡◌, true, false, List, [], ◌∷◌, ℕ, ◌+◌, ◌*◌, ◌^◌, ◌≤◌, ◌<◌, ℤ, nat_abs, length, get_or, Option, None, Some, Result, Ok, Err, IfOk}
 use Rattle.sync_corr.specs.Correlate.{ones_of}
-use Rattle.sync_heads.specs.declared.Record.{Record}
 use Rattle.sync_heads.specs.Ranges.{record_in_range}
 use Rattle.sync_step.specs.Step.{is_locked}
 use Rattle.sync_step.specs.Ranges.{run_in_range}
 use Rattle.sync.specs.declared.SlotSync.{SlotSync}
 use Rattle.sync.specs.Sync.{started_sync}
-use Rattle.sync.specs.Answers.{new_answer, accepted_push, push_answer, restart_answer}
+use Rattle.sync.specs.Answers.{new_answer, accepted_push, push_answer, restart_answer, sync_left}
+use Rattle.refusal.specs.Refusals.{state_after}
+use Rattle.refusal.specs.declared.Refusal.{Refusal}
+use Rattle.refusal.specs.declared.Refusal.TheVariants.{Arithmetic}
+use Rattle.refusal.specs.declared.Refused.{Refused}
 use Rattle.sync_range.specs.Coherent.{Bound, Short, corr_most, most_of, Coherent, Fresh}
 
 -- a symbol's two parts, with the two words and the accumulators that are lent; or a restart at a position
@@ -15,15 +19,20 @@ pub data Call : Type 0 where
   push : ℤ → ℤ → List ℤ → List ℤ → List ℕ → Call
   restart : ℕ → List ℕ → Call
 
--- the refusal that a call on s answers, 0 if none
-unfoldable pub refusal_of : SlotSync → Call → ℕ
-refusal_of s (push i q f w acc) = (push_answer s i q f w acc).refusal
-refusal_of s (restart at acc) = (restart_answer s at acc).refusal
+-- why an answer refuses
+abbrev pub refused_for : {T S : Type 0} → Result T (Refused S) → Option Refusal
+refused_for (Ok answer) = None
+refused_for (Err refused) = Some refused.why
 
--- the sync that a call on s answers
+-- the refusal that a call on s answers
+unfoldable pub refusal_of : SlotSync → Call → Option Refusal
+refusal_of s (push i q f w acc) = refused_for (push_answer s i q f w acc)
+refusal_of s (restart at acc) = refused_for (restart_answer s at acc)
+
+-- the sync that a call on s answers; a refused one hands back s
 unfoldable pub sync_of : SlotSync → Call → SlotSync
-sync_of s (push i q f w acc) = (push_answer s i q f w acc).sync
-sync_of s (restart at acc) = (restart_answer s at acc).sync
+sync_of s (push i q f w acc) = sync_left (push_answer s i q f w acc)
+sync_of s (restart at acc) = state_after (restart_answer s at acc)
 
 -- .. and after several
 unfoldable pub sync_after : SlotSync → List Call → SlotSync
@@ -48,7 +57,7 @@ CallsFit b (c ∷ cs) = CallFits b c × CallsFit b cs
 -- ---- what each call makes of a coherent sync
 pub record Keeps (b : Bound) : Type 0 where
   -- a start, at any position and with any frame record in range
-  pub started : (at : ℕ) (last : Record) → record_in_range last ≡ true → Coherent b (started_sync at last)
+  pub started : (at : ℕ) (last : Option FrameHead) → record_in_range last ≡ true → Coherent b (started_sync at last)
   -- an accepted symbol
   pub pushed : (s : SlotSync) (i q : ℤ) (f w : List ℤ) (acc : List ℕ) → Coherent b s → PushFits b i q acc → ones_of f ≡ true → ones_of w ≡ true →
       length acc ≡ 9296 →
@@ -67,11 +76,12 @@ pub record Sound (b : Bound) (s : SlotSync) : Type 0 where
   pub coherent : Coherent b s
   pub in_range : run_in_range s.run ≡ true
   -- no call on it finds a number out of range
-  pub never_6 : (c : Call) → refusal_of s c ≡ 6 → ⊥
+  pub never_6 : (c : Call) → refusal_of s c ≡ Some Arithmetic → ⊥
 
--- .. that is, of any sync that `new` answers and any calls then leave
+-- .. that is, of what any calls leave of a new sync, which is the one that `new` answers
 abbrev pub CallsKeep : Type 0
-CallsKeep = (b : Bound) (at : ℕ) (acc : List ℕ) (cs : List Call) → Short b → CallsFit b cs → Sound b (sync_after (new_answer at acc).sync cs)
+CallsKeep = (b : Bound) (at : ℕ) (acc : List ℕ) (cs : List Call) → Short b → CallsFit b cs →
+    Sound b (sync_after (started_sync at None) cs) × IfOk (new_answer at acc) (λ s. Sound b (sync_after s cs))
 
 -- ---- the figures of docs/RANGES.md, "Slot sync": correlation part, peak, sum
 pub record Figures (b : Bound) (corr peak sum : ℕ) : Type 0 where

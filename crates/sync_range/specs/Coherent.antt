@@ -1,6 +1,7 @@
 -- What is true together of the numbers of a slot sync that came from calls: docs/RANGES.md, under Slot sync, what is told jointly. Periods are numbered from the start,
 -- heads from the lock on, both from 0.
-use Rattle.std.specs.Prelude.{◌≡◌, true, List, ℕ, ◌+◌, ◌-◌, ◌*◌, ◌/◌, ◌%◌, ◌^◌, ◌≤◌, ◌<◌, min, eqb, ℤ, pos, nat_abs, length}
+use Rattle.sync_heads.specs.declared.SlotNumber.{SlotNumber}
+use Rattle.std.specs.Prelude.{◌≡◌, true, List, ℕ, ◌+◌, ◌-◌, ◌*◌, ◌/◌, ◌%◌, ◌^◌, ◌≤◌, ◌<◌, min, eqb, ℤ, pos, nat_abs, length, Option, None, Some}
 use Rattle.sync_corr.specs.Correlate.{at}
 use Rattle.sync_corr.specs.Rows.{Bounded}
 use Rattle.sync_lock.specs.declared.Tally.{Tally}
@@ -10,8 +11,6 @@ use Rattle.sync_heads.specs.declared.Reading.{Reading}
 use Rattle.sync_heads.specs.declared.Parity.{Parity}
 use Rattle.sync_heads.specs.declared.Stage.{Stage}
 use Rattle.sync_heads.specs.declared.Stage.TheVariants.{Before, First, Known}
-use Rattle.sync_heads.specs.declared.Slot.{Slot}
-use Rattle.sync_heads.specs.declared.Slot.TheVariants.{Unknown, In}
 use Rattle.sync_heads.specs.declared.Course.{Course}
 use Rattle.sync_heads.specs.Ranges.{record_in_range}
 use Rattle.sync_step.specs.declared.Run.{Run}
@@ -135,9 +134,9 @@ pub record NumberFits (h misses number : ℕ) : Type 0 where
   pub heads : 6 ≤ h
 
 -- markers are missed only where slots are numbered
-abbrev pub SlotFits : ℕ → ℕ → Slot → Type 0
-SlotFits h misses Unknown = misses ≡ 0
-SlotFits h misses (In number frame) = NumberFits h misses number
+abbrev pub SlotFits : ℕ → ℕ → Option SlotNumber → Type 0
+SlotFits h misses None = misses ≡ 0
+SlotFits h misses (Some s) = NumberFits h misses s.number
 
 -- m: the F heads read
 pub record CourseFits (h m : ℕ) (c : Course) : Type 0 where
@@ -171,5 +170,5 @@ pub record Coherent (b : Bound) (s : SlotSync) : Type 0 where
 pub record Fresh (r : Run) : Type 0 where
   pub stage : r.stage ≡ Before
   pub majority : r.course.majority ≡ pos 0
-  pub slot : r.course.slot ≡ Unknown
+  pub slot : r.course.slot ≡ None
   pub misses : r.course.misses ≡ 0

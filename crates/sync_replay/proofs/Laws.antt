@@ -70,13 +70,13 @@ rows_whole : (refusal a b c d v : ℕ) (l m n : List ℕ) → l ≡ row_read l �
 unfolding refused_of
 rows_whole refusal a b c d v l m n p q r = rw (p, q, r)
 
-pub answer_whole : (refusal : ℕ) (last : LastCorr) (es : Events) →
+pub answer_whole : (last : LastCorr) (es : Events) →
     let f = last.both.f in
     let s = last.both.s in
-    let t = set (set (set (set (set (refused_of refusal) 2 (bits f.re)) 3 (bits f.im)) 4 (bits s.re)) 5 (bits s.im)) 6 last.level in
-    sets (sets (sets t 7 (row_of es.first)) 18 (row_of es.second)) 29 (row_of es.third) ≡ answer_of refusal last es
+    let t = set (set (set (set (set (refused_of 0) 2 (bits f.re)) 3 (bits f.im)) 4 (bits s.re)) 5 (bits s.im)) 6 last.level in
+    sets (sets (sets t 7 (row_of es.first)) 18 (row_of es.second)) 29 (row_of es.third) ≡ answer_of last es
 unfolding answer_of
-answer_whole refusal last es = rows_whole refusal _ _ _ _ _ _ _ _ (row_whole es.first) (row_whole es.second) (row_whole es.third)
+answer_whole last es = rows_whole 0 _ _ _ _ _ _ _ _ (row_whole es.first) (row_whole es.second) (row_whole es.third)
 
 -- ---- one more push of the same symbol
 pub pushes_more : (n : ℕ) (i q : ℤ) (s r : St) → r ≡ pushes_of n i q s →

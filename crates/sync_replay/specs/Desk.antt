@@ -1,8 +1,12 @@
 -- What each call does.
-use Rattle.std.specs.Prelude.{ℕ, zero, suc, List, length, ℤ, nat_lt, slice_index, slice_set}
+use Rattle.std.specs.Prelude.{ℕ, zero, suc, List, length, ℤ, nat_lt, slice_index, slice_set, None, Result, Ok, Err}
 use Rattle.laws.specs.Choice.{when◌then◌else◌}
 use Rattle.fields.specs.Fields.{ones_at}
 use Rattle.sync.specs.declared.SlotSync.{SlotSync}
+use Rattle.refusal.specs.Refusals.{code_of, number_of}
+use Rattle.refusal.specs.declared.Refused.{Refused}
+use Rattle.sync.specs.declared.Pushed.{Pushed}
+use Rattle.sync.specs.Sync.{started_sync}
 use Rattle.sync.specs.Answers.{new_answer, restart_answer, push_answer, push_acc}
 use Rattle.sync_replay.specs.declared.desk.Desk.{Desk}
 use Rattle.sync_replay.specs.Mixing.{mixed_to}
@@ -24,10 +28,14 @@ unfoldable pub after_of : Desk → SlotSync → List ℕ → Desk
 after_of d sync answer = record { sync = sync; f = d.f; s = d.s; told = noted_of (slice_index d.told 0) answer }
 
 unfoldable pub started_of : Desk → ℕ → List ℕ → Desk
-started_of d at acc = let a = new_answer at acc in after_of d a.sync (refused_of a.refusal)
+started_of d at acc = after_of d (started_sync at None) (refused_of (code_of (new_answer at acc)))
+
+abbrev pub restarted_by : Desk → Result SlotSync (Refused SlotSync) → Desk
+restarted_by d (Ok s) = after_of d s (refused_of 0)
+restarted_by d (Err r) = after_of d r.state (refused_of (number_of r.why))
 
 unfoldable pub restarted_of : Desk → ℕ → List ℕ → Desk
-restarted_of d at acc = let a = restart_answer d.sync at acc in after_of d a.sync (refused_of a.refusal)
+restarted_of d at acc = restarted_by d (restart_answer d.sync at acc)
 
 unfoldable pub handed_of : Desk → List ℕ → Desk
 handed_of d p = record { sync = state_of p; f = d.f; s = d.s; told = d.told }
@@ -38,10 +46,12 @@ folded_of d acc = record { sync = d.sync; f = d.f; s = d.s; told = slice_set d.t
 unfoldable pub unknown_of : Desk → Desk
 unknown_of d = after_of d d.sync (refused_of 255)
 
+abbrev pub pushed_by : Desk → Result Pushed (Refused SlotSync) → Desk
+pushed_by d (Ok p) = after_of d p.sync (answer_of p.last p.events)
+pushed_by d (Err r) = after_of d r.state (refused_of (number_of r.why))
+
 unfoldable pub pushed_of : Desk → ℤ → ℤ → List ℕ → Desk
-pushed_of d i q acc =
-    let a = push_answer d.sync i q d.f d.s acc in
-    after_of d a.sync (answer_of a.refusal a.last a.events)
+pushed_of d i q acc = pushed_by d (push_answer d.sync i q d.f d.s acc)
 
 -- a desk and its accumulators, and the same symbol n times
 pub record St : Type 0 where

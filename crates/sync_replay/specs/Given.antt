@@ -1,5 +1,7 @@
 -- Words and states as the places hold them: 0 to 47 the F word, 48 to 95 the S word, 96 to 143 the window, 144 on the state.
-use Rattle.std.specs.Prelude.{ℕ, ◌+◌, ◌*◌, ◌^◌, List, ℤ, ◌==◌}
+use Rattle.sync_heads.specs.Numbers.{last_head}
+use Rattle.sync_heads.specs.declared.FrameHead.{FrameHead}
+use Rattle.std.specs.Prelude.{ℕ, ◌+◌, ◌*◌, ◌^◌, List, ℤ, ◌==◌, Option, None}
 use Rattle.laws.specs.Choice.{when◌then◌else◌}
 use Rattle.laws.specs.Ranges.{firsts}
 use Rattle.sync_lock.specs.declared.Tally.{Tally}
@@ -7,8 +9,6 @@ use Rattle.sync_lock.specs.declared.Lock.{Lock}
 use Rattle.sync_lock.specs.declared.Lock.TheVariants.{Search, Locked}
 use Rattle.sync_heads.specs.declared.Stage.{Stage}
 use Rattle.sync_heads.specs.declared.Stage.TheVariants.{Before, First, Known}
-use Rattle.sync_heads.specs.declared.Record.{Record}
-use Rattle.sync_heads.specs.declared.Record.TheVariants.{Never, Last}
 use Rattle.sync_heads.specs.declared.Course.{Course}
 use Rattle.sync_step.specs.declared.Run.{Run}
 use Rattle.sync.specs.declared.SlotSync.{SlotSync}
@@ -41,8 +41,8 @@ stage_of p =
     then First (record { at = wide_at p 156; both = record { f = corr_of p 158; s = corr_of p 160 } })
     else Known (record { odd = on p 162; due = on p 163; last = corr_of p 164 })
 
-unfoldable pub record_of : List ℕ → Record
-record_of p = when at p 170 == 0 then Never else Last (wide_at p 171) (at32 p 173)
+unfoldable pub record_of : List ℕ → Option FrameHead
+record_of p = when at p 170 == 0 then None else last_head (wide_at p 171) (at32 p 173)
 
 unfoldable pub course_of : List ℕ → Course
 course_of p =

@@ -1,5 +1,5 @@
 -- An answer as forty numbers.
-use Rattle.std.specs.Prelude.{ℕ, List, [], ◌∷◌, ◌++◌, replicate, slice_set}
+use Rattle.std.specs.Prelude.{ℕ, List, [], ◌∷◌, ◌++◌, replicate, slice_set, is_some, unwrap_or}
 use Rattle.laws.specs.Ranges.{firsts}
 use Rattle.sync_heads.specs.declared.Head.{Head}
 use Rattle.sync_step.specs.declared.SyncStats.{SyncStats}
@@ -34,9 +34,9 @@ period_row p =
     ∷ p.peak
     ∷ p.peak_pos
     ∷ p.sum
-    ∷ flag_of p.locked
-    ∷ p.offset
-    ∷ p.ssync_parity
+    ∷ flag_of (is_some p.offset)
+    ∷ unwrap_or p.offset 0
+    ∷ flag_of p.ssync_odd
     ∷ p.stray_markers
     ∷ p.missed_markers
     ∷ 0
@@ -50,11 +50,11 @@ row_of (HeadEvent h) = head_row h
 row_of (Period p) = period_row p
 row_of (Lost at) = 3 ∷ at ∷ 0 ∷ 0 ∷ 0 ∷ 0 ∷ 0 ∷ 0 ∷ 0 ∷ 0 ∷ 0 ∷ []
 
--- a place for the digest, the refusal, the correlations with F and S, the accumulator, and the events
-unfoldable pub answer_of : ℕ → LastCorr → Events → List ℕ
-answer_of refusal last es =
+-- a place for the digest, no refusal, the correlations with F and S, the accumulator, and the events
+unfoldable pub answer_of : LastCorr → Events → List ℕ
+answer_of last es =
     (0
-    ∷ refusal
+    ∷ 0
     ∷ bits last.both.f.re
     ∷ bits last.both.f.im
     ∷ bits last.both.s.re

@@ -1,4 +1,6 @@
 // What the calls act on, and what each does to it. Places and accumulators are lent.
+#![tactic(auto, unfolding(crate::specs::Desk::words_of, crate::specs::Desk::after_of, crate::specs::Desk::started_of, crate::specs::Desk::handed_of, crate::specs::Desk::folded_of, crate::specs::Desk::unknown_of))]
+
 ghost use Rattle.std.specs.Prelude.{◌≡◌};
 ghost use Rattle.sync.specs.Answers.{new_acc, restart_acc, push_acc};
 ghost use Rattle.sync_replay.specs.Desk.{put_of, set_of, words_of, after_of, started_of, restarted_of, handed_of, folded_of, unknown_of, pushed_of, st, pushes_of};
@@ -37,15 +39,10 @@ pub(crate) fn set(acc: &mut [u32], n: u64, v: u32)
 pub(crate) fn words(d: Desk, p: &[u64; 192]) -> Desk
     ensures { result ≡ words_of d p.now }
 {
-    let f = given::word(p, 0);
-    let s = given::word(p, 48);
-    let k = d.sync;
-    let t = d.told;
     Desk {
-        sync: k,
-        f: f,
-        s: s,
-        told: t,
+        f: given::word(p, 0),
+        s: given::word(p, 48),
+        ..d
     }
 }
 
@@ -53,47 +50,37 @@ pub(crate) fn words(d: Desk, p: &[u64; 192]) -> Desk
 fn after(d: Desk, sync: SlotSync, answer: [u64; 40]) -> Desk
     ensures { result ≡ after_of d sync answer }
 {
-    let f = d.f;
-    let s = d.s;
-    let t = d.told;
     Desk {
-        sync: sync,
-        f: f,
-        s: s,
-        told: told::noted(t[0], answer),
+        sync,
+        told: told::noted(d.told[0], answer),
+        ..d
     }
 }
 
+// A new sync, on accumulators that are refused too.
 pub(crate) fn started(d: Desk, at: u64, acc: &mut [u32]) -> Desk
     ensures { (result ≡ started_of d at acc.old) × (acc.new ≡ new_acc acc.old) }
 {
-    let a = sync::new(at, acc);
-    let k = a.sync;
-    after(d, k, told::refused(a.refusal))
+    let n = refusal::code(&sync::new(at, acc));
+    after(d, sync::plain::started(at, None), told::refused(n))
 }
 
 pub(crate) fn restarted(d: Desk, at: u64, acc: &mut [u32]) -> Desk
     ensures { (result ≡ restarted_of d at acc.old) × (acc.new ≡ restart_acc d.sync at acc.old) }
 {
-    let s = d.sync;
-    let a = sync::restart(s, at, acc);
-    let k = a.sync;
-    after(d, k, told::refused(a.refusal))
+    match sync::restart(d.sync, at, acc) {
+        Ok(s) => after(d, s, told::refused(0)),
+        Err(r) => after(d, r.state, told::refused(r.why.number())),
+    }
 }
 
 // The state of the places.
 pub(crate) fn handed(d: Desk, p: &[u64; 192]) -> Desk
     ensures { result ≡ handed_of d p.now }
 {
-    let k = given::state_at(p);
-    let f = d.f;
-    let s = d.s;
-    let t = d.told;
     Desk {
-        sync: k,
-        f: f,
-        s: s,
-        told: t,
+        sync: given::state_at(p),
+        ..d
     }
 }
 
@@ -101,39 +88,26 @@ pub(crate) fn handed(d: Desk, p: &[u64; 192]) -> Desk
 pub(crate) fn folded(d: Desk, acc: &[u32]) -> Desk
     ensures { result ≡ folded_of d acc.now }
 {
-    let k = d.sync;
-    let f = d.f;
-    let s = d.s;
     let mut t = d.told;
     t[0] = mixing::mixed_store(t[0], acc);
-    Desk {
-        sync: k,
-        f: f,
-        s: s,
-        told: t,
-    }
+    Desk { told: t, ..d }
 }
 
 // A call that there is not: 255 is no refusal of document 01.
 pub(crate) fn unknown(d: Desk) -> Desk
     ensures { result ≡ unknown_of d }
 {
-    let k = d.sync;
-    after(d, k, told::refused(255))
+    after(d, d.sync, told::refused(255))
 }
 
 // One symbol.
 fn pushed(d: Desk, i: i16, q: i16, acc: &mut [u32]) -> Desk
     ensures { (result ≡ pushed_of d i q acc.old) × (acc.new ≡ push_acc d.sync i q d.f d.s acc.old) }
 {
-    let k = d.sync;
-    let f = d.f;
-    let s = d.s;
-    let a = sync::push(k, i, q, f, s, acc);
-    let n = a.sync;
-    let l = a.last;
-    let es = a.events;
-    after(d, n, told::answer(a.refusal, l, es))
+    match sync::push(d.sync, i, q, d.f, d.s, acc) {
+        Ok(p) => after(d, p.sync, told::answer(p.last, p.events)),
+        Err(r) => after(d, r.state, told::refused(r.why.number())),
+    }
 }
 
 // One symbol, n times.
@@ -141,10 +115,8 @@ pub(crate) fn pushes(d: Desk, n: u64, i: i16, q: i16, acc: &mut [u32]) -> Desk
     ensures { st result acc.new ≡ pushes_of n i q (st d acc.old) }
 {
     let mut r = d;
-    let mut k: u64 = 0;
-    while k < n {
+    for k in 0u64..n {
         r = pushed(r, i, q, acc);
-        k += 1;
     }
     r
 }

@@ -1,5 +1,7 @@
 // Words and states as the 192 places hold them, each number taken to the width of its field by its low bits. One of 64 bits takes two places, the
 // low half first.
+#![tactic(auto, using(laws::specs::Choice::cases), unfolding(crate::specs::Given::tally_of, crate::specs::Given::lock_of, crate::specs::Given::run_of, crate::specs::Given::state_of, crate::specs::Given::wide_at))]
+
 ghost use Rattle.std.specs.Prelude.{◌≡◌, ◌+◌, ◌<◌, ◌≤◌, length};
 ghost use Rattle.fields.specs.Fields.{ones_at};
 ghost use Rattle.slot_wire.specs.Slots.{corr_of, slot_of};
@@ -7,15 +9,16 @@ ghost use Rattle.sync_replay.specs.Given.{wide_at, window_of, tally_of, lock_of,
 
 use sync::SlotSync;
 use sync_corr::{Both, Corr};
-use sync_heads::{Course, Parity, Reading, Record, Slot, Stage};
+use sync_heads::{Course, FrameHead, Parity, Reading, SlotNumber, Stage};
 use sync_lock::{Lock, Tally};
 use sync_step::Run;
+use wire::Field;
 
 pub(crate) fn wide(p: &[u64; 192], k: usize) -> u64
     requires { k + 1 < 192 }
     ensures { result ≡ wide_at p.now k }
 {
-    (wire::low32(p[k]) as u64) + 0x1_0000_0000 * (wire::low32(p[k + 1]) as u64)
+    (u32::of_bits(p[k]) as u64) + 0x1_0000_0000 * (u32::of_bits(p[k + 1]) as u64)
 }
 
 fn no_word() -> [i8; 48]
@@ -30,10 +33,8 @@ pub(crate) fn word(p: &[u64; 192], k: usize) -> [i8; 48]
     ensures { result ≡ ones_at p.now k }
 {
     let mut w = no_word();
-    let mut i: usize = 0;
-    while i < 48 {
-        w[i] = wire::signed8(p[k + i]);
-        i += 1;
+    for i in 0..48 {
+        w[i] = i8::of_bits(p[k + i]);
     }
     w
 }
@@ -48,10 +49,8 @@ fn window_at(p: &[u64; 192]) -> [i16; 48]
     ensures { result ≡ window_of p.now }
 {
     let mut w = no_window();
-    let mut i: usize = 0;
-    while i < 48 {
-        w[i] = wire::signed16(p[96 + i]);
-        i += 1;
+    for i in 0..48 {
+        w[i] = i16::of_bits(p[96 + i]);
     }
     w
 }
@@ -62,8 +61,8 @@ fn corr_at(p: &[u64; 192], k: usize) -> Corr
     ensures { result ≡ corr_of p.now k }
 {
     Corr {
-        re: wire::signed32(p[k]),
-        im: wire::signed32(p[k + 1]),
+        re: i32::of_bits(p[k]),
+        im: i32::of_bits(p[k + 1]),
     }
 }
 
@@ -71,8 +70,8 @@ fn tally_at(p: &[u64; 192]) -> Tally
     ensures { result ≡ tally_of p.now }
 {
     Tally {
-        peak: wire::low32(p[148]),
-        place: fields::low16(p[149]),
+        peak: u32::of_bits(p[148]),
+        place: u16::of_bits(p[149]),
         sum: wide(p, 150),
     }
 }
@@ -80,8 +79,8 @@ fn tally_at(p: &[u64; 192]) -> Tally
 fn lock_at(p: &[u64; 192]) -> Lock
     ensures { result ≡ lock_of p.now }
 {
-    let place = fields::low16(p[153]);
-    let count = wire::low32(p[154]);
+    let place = u16::of_bits(p[153]);
+    let count = u32::of_bits(p[154]);
     if p[152] == 0 {
         Lock::Search {
             cand: place,
@@ -117,61 +116,55 @@ fn stage_at(p: &[u64; 192]) -> Stage
     }
 }
 
-fn slot_at(p: &[u64; 192]) -> Slot
+fn slot_at(p: &[u64; 192]) -> Option<SlotNumber>
     ensures { result ≡ slot_of p.now 167 }
 {
     if p[167] == 0 {
-        Slot::Unknown
+        None
     } else {
-        Slot::In {
-            number: wire::low8(p[168]),
-            frame: wire::low32(p[169]),
-        }
+        Some(SlotNumber {
+            number: u8::of_bits(p[168]),
+            frame: u32::of_bits(p[169]),
+        })
     }
 }
 
-fn record_at(p: &[u64; 192]) -> Record
+fn record_at(p: &[u64; 192]) -> Option<FrameHead>
     ensures { result ≡ record_of p.now }
 {
     if p[170] == 0 {
-        Record::Never
+        None
     } else {
-        Record::Last {
+        Some(FrameHead {
             at: wide(p, 171),
-            frame: wire::low32(p[173]),
-        }
+            frame: u32::of_bits(p[173]),
+        })
     }
 }
 
 fn course_at(p: &[u64; 192]) -> Course
     ensures { result ≡ course_of p.now }
 {
-    let s = slot_at(p);
-    let l = record_at(p);
     Course {
-        majority: wire::signed32(p[166]),
-        slot: s,
-        last: l,
-        misses: wire::low32(p[174]),
-        stray: wire::low32(p[175]),
-        missed: wire::low32(p[176]),
+        majority: i32::of_bits(p[166]),
+        slot: slot_at(p),
+        last: record_at(p),
+        misses: u32::of_bits(p[174]),
+        stray: u32::of_bits(p[175]),
+        missed: u32::of_bits(p[176]),
     }
 }
 
 fn run_at(p: &[u64; 192]) -> Run
     ensures { result ≡ run_of p.now }
 {
-    let y = tally_at(p);
-    let k = lock_at(p);
-    let s = stage_at(p);
-    let c = course_at(p);
     Run {
         base: wide(p, 144),
         t: wide(p, 146),
-        tally: y,
-        lock: k,
-        stage: s,
-        course: c,
+        tally: tally_at(p),
+        lock: lock_at(p),
+        stage: stage_at(p),
+        course: course_at(p),
     }
 }
 
@@ -179,7 +172,8 @@ fn run_at(p: &[u64; 192]) -> Run
 pub(crate) fn state_at(p: &[u64; 192]) -> SlotSync
     ensures { result ≡ state_of p.now }
 {
-    let w = window_at(p);
-    let r = run_at(p);
-    SlotSync { win: w, run: r }
+    SlotSync {
+        win: window_at(p),
+        run: run_at(p),
+    }
 }

@@ -24,14 +24,7 @@ ghost use Rattle.std.specs.Prelude.{◌≡◌, ◌+◌, ◌*◌, ◌≤◌, IfOk
 use desk::Desk;
 use std::io;
 use std::io::Write;
-
-// What a block of input leaves to do.
-#[derive(Clone, Copy)]
-enum Next {
-    Block,
-    Nothing,
-    Short,
-}
+use wire::Field;
 
 // The desk, and how much of the output is used.
 #[derive(Clone, Copy)]
@@ -49,14 +42,14 @@ fn on_store(d: Desk, kind: u64, n: u64, v: u64, p: &[u64; 192], acc: &mut [u32])
         3 => desk::pushes(
             d,
             n,
-            wire::signed16(v),
-            wire::signed16(v / 65536),
+            i16::of_bits(v),
+            i16::of_bits(v / 65536),
             &mut acc[..all],
         ),
         4 => desk::restarted(d, at, &mut acc[..all]),
         7 => desk::folded(d, acc),
         8 => {
-            desk::set(acc, n, wire::low32(v));
+            desk::set(acc, n, u32::of_bits(v));
             d
         }
         _ => desk::unknown(d),
@@ -96,7 +89,7 @@ fn tell(rt: &HostRuntime, d: Desk, used: usize, out: &mut [u8]) -> io::Result<us
     let t = d.told;
     let bytes = told::packed(&t);
     let at = room(rt, used, out)?;
-    wire::streams::put(&bytes, out, at);
+    wire::ranged::put(&bytes, out, at);
     Ok(at + 320)
 }
 
@@ -143,84 +136,10 @@ fn replay(
     ensures { IfOk result (λ t. t.used ≤ 65536) }
 {
     let mut t = Turn { desk: d, used: 0 };
-    let mut i: usize = 0;
-    while i < n {
+    for i in 0..n {
         t = one_call(rt, t, wire::ranged::word(buf, 8 * i), p, acc, out)?;
-        i += 1;
     }
     Ok(t)
-}
-
-// What a block leaves: the desk, and what is to be done.
-#[derive(Clone, Copy)]
-struct Left {
-    desk: Desk,
-    next: Next,
-}
-
-fn next_of(got: usize, whole: usize, all: usize) -> Next {
-    if whole < got {
-        Next::Short
-    } else if got < all {
-        Next::Nothing
-    } else {
-        Next::Block
-    }
-}
-
-// Reads a block of calls and writes what they tell.
-fn block(
-    rt: &HostRuntime,
-    d: Desk,
-    buf: &mut [u8],
-    p: &mut [u64; 192],
-    acc: &mut [u32],
-    out: &mut [u8],
-) -> io::Result<Left>
-    requires { length out.old ≡ 65536 }
-{
-    let got = wire::streams::read_full(&mut rt.stdin(), buf)?;
-    let n = got / 8;
-    let t = replay(rt, d, buf, n, p, acc, out)?;
-    let k = t.desk;
-    let used = t.used;
-    rt.stdout().write_all(&out[..used])?;
-    Ok(Left {
-        desk: k,
-        next: next_of(got, 8 * n, buf.len()),
-    })
-}
-
-// A proved loop has to end, and nothing says that the input does: the turns are counted down from a number that no run uses up.
-fn blocks(
-    rt: &HostRuntime,
-    d: Desk,
-    buf: &mut [u8],
-    p: &mut [u64; 192],
-    acc: &mut [u32],
-    out: &mut [u8],
-) -> io::Result<()>
-    requires { length out.old ≡ 65536 }
-{
-    let mut k = d;
-    let mut turns = u64::MAX;
-    while 0 < turns {
-        let l = block(rt, k, buf, p, acc, out)?;
-        k = l.desk;
-        let n = l.next;
-        match n {
-            Next::Block => {
-                turns -= 1;
-            }
-            Next::Nothing => {
-                return Ok(());
-            }
-            Next::Short => {
-                return rt.stderr().write_all(b"the input ends within a call\n");
-            }
-        }
-    }
-    Ok(())
 }
 
 // One accumulator more than a sync takes, so that too many can be lent.
@@ -230,13 +149,16 @@ fn main(rt: HostRuntime) -> io::Result<()> {
     let mut acc = [0u32; 9297];
     let mut buf = [0u8; 65536];
     let mut out = [0u8; 65536];
-    let a = sync::new(0, &mut acc);
-    let s = a.sync;
-    let d = Desk {
-        sync: s,
+    let mut d = Desk {
+        sync: sync::plain::started(0, None),
         f: [1i8; 48],
         s: [1i8; 48],
         told: [0u64; 40],
     };
-    blocks(&rt, d, &mut buf, &mut p, &mut acc, &mut out)
+    wire::ranged::replay(&rt, &mut buf, 8, |calls: &mut [u8]| -> io::Result<()> {
+        let n = calls.len() / 8;
+        let t = replay(&rt, d, calls, n, &mut p, &mut acc, &mut out)?;
+        d = t.desk;
+        rt.stdout().write_all(&out[..t.used])
+    })
 }

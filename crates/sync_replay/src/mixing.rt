@@ -17,10 +17,8 @@ pub(crate) fn mixed_all(d: u64, n: &[u64; 40]) -> u64
     ensures { result ≡ mixed_to d n.now 40 }
 {
     let mut r = d;
-    let mut k: usize = 0;
-    while k < 40 {
+    for k in 0..40 {
         r = mixed(r, n[k]);
-        k += 1;
     }
     r
 }
@@ -37,10 +35,8 @@ pub(crate) fn mixed_store(d: u64, acc: &[u32]) -> u64
     ensures { result ≡ mixed_to d acc.now (length acc.now) }
 {
     let mut r = d;
-    let mut k: usize = 0;
-    while k < acc.len() {
+    for k in 0..acc.len() {
         r = mixed_level(r, acc[k]);
-        k += 1;
     }
     r
 }

@@ -1,4 +1,6 @@
 // An answer as forty numbers: a place for the digest, refusal, correlations, level, and three rows of eleven for the events.
+#![tactic(auto, unfolding(crate::specs::Told::row_of, crate::specs::Told::period_row, crate::specs::Told::refused_of, crate::specs::Told::noted_of))]
+
 ghost use Rattle.std.specs.Prelude.{◌≡◌, ◌+◌, ◌≤◌, length};
 ghost use Rattle.std.proofs.lemmas.List.Edits.{sets};
 ghost use Rattle.sync_replay.specs.Told.{head_row, period_row, row_of, answer_of, refused_of, noted_of, packed_of};
@@ -6,22 +8,20 @@ ghost use Rattle.sync_replay.specs.Told.{head_row, period_row, row_of, answer_of
 use crate::mixing;
 use sync_heads::Head;
 use sync_step::{Event, Events, LastCorr, SyncStats};
+use wire::Field;
 
 fn head_row(h: Head) -> [u64; 11]
     ensures { result ≡ head_row h }
 {
-    let w = h.word;
-    let c = h.corr;
-    let t = h.slot;
-    let s = slot_wire::slot_shown(t);
+    let s = slot_wire::slot_shown(h.slot);
     [
         1,
         h.at,
-        slot_wire::word_number(w),
-        wire::bits32(c.re),
-        wire::bits32(c.im),
+        slot_wire::word_number(h.word),
+        h.corr.re.to_bits(),
+        h.corr.im.to_bits(),
         h.theta as u64,
-        wire::to_bits(h.amp),
+        h.amp.to_bits(),
         s.known,
         s.number,
         s.frame,
@@ -37,9 +37,9 @@ fn period_row(p: SyncStats) -> [u64; 11]
         p.peak as u64,
         p.peak_pos as u64,
         p.sum,
-        fields::flag(p.locked),
-        p.offset as u64,
-        p.ssync_parity as u64,
+        fields::flag(p.offset.is_some()),
+        p.offset.unwrap_or(0) as u64,
+        fields::flag(p.ssync_odd),
         p.stray_markers as u64,
         p.missed_markers as u64,
         0,
@@ -58,7 +58,7 @@ fn row(e: Event) -> [u64; 11]
     }
 }
 
-// An answer that is a refusal's number, or 0, alone.
+// An answer that is a refusal's number, or 0, alone: a number of the answer's bytes.
 pub(crate) fn refused(n: u8) -> [u64; 40]
     ensures { result ≡ refused_of n }
 {
@@ -74,33 +74,25 @@ fn placed(t: [u64; 40], k: usize, e: Event) -> [u64; 40]
 {
     let x = row(e);
     let mut r = t;
-    let mut i: usize = 0;
-    while i < 11 {
+    for i in 0..11 {
         r[k + i] = x[i];
-        i += 1;
     }
     r
 }
 
-// The answer to a symbol.
-pub(crate) fn answer(refusal: u8, last: LastCorr, es: Events) -> [u64; 40]
-    ensures { result ≡ answer_of refusal last es }
+// The answer to a symbol that is taken.
+pub(crate) fn answer(last: LastCorr, es: Events) -> [u64; 40]
+    ensures { result ≡ answer_of last es }
 {
-    let b = last.both;
-    let f = b.f;
-    let s = b.s;
-    let mut t = refused(refusal);
-    t[2] = wire::bits32(f.re);
-    t[3] = wire::bits32(f.im);
-    t[4] = wire::bits32(s.re);
-    t[5] = wire::bits32(s.im);
+    let mut t = refused(0);
+    t[2] = last.both.f.re.to_bits();
+    t[3] = last.both.f.im.to_bits();
+    t[4] = last.both.s.re.to_bits();
+    t[5] = last.both.s.im.to_bits();
     t[6] = last.level as u64;
-    let e1 = es.first;
-    let e2 = es.second;
-    let e3 = es.third;
-    let x = placed(t, 7, e1);
-    let y = placed(x, 18, e2);
-    placed(y, 29, e3)
+    let x = placed(t, 7, es.first);
+    let y = placed(x, 18, es.second);
+    placed(y, 29, es.third)
 }
 
 // An answer with the digest that it leaves.
@@ -124,11 +116,9 @@ pub(crate) fn packed(n: &[u64; 40]) -> [u8; 320]
     ensures { result ≡ packed_of n.now }
 {
     let mut t = no_bytes();
-    let mut i: usize = 0;
-    while i < 320 {
+    for i in 0..320 {
         let b = wire::bytes(n[i / 8]);
         t[i] = b[i % 8];
-        i += 1;
     }
     t
 }

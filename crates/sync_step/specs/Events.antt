@@ -1,23 +1,22 @@
 -- Events in their places.
-use Rattle.std.specs.Prelude.{Bool, true, false, pos}
+use Rattle.sync_heads.specs.declared.Head.{Head}
+use Rattle.std.specs.Prelude.{Bool, true, false, pos, Option, None, Some}
 use Rattle.laws.specs.Choice.{when◌then◌else◌}
-use Rattle.sync_heads.specs.declared.Headed.{Headed}
-use Rattle.sync_heads.specs.declared.Headed.TheVariants.{Nothing as NoHead, One as OneHead}
 use Rattle.sync_heads.specs.declared.Taken.{Taken}
 use Rattle.sync_step.specs.declared.Event.{Event}
-use Rattle.sync_step.specs.declared.Event.TheVariants.{Nothing, Head, Period, Lost}
+use Rattle.sync_step.specs.declared.Event.TheVariants.{Nothing, Head as HeadEvent, Period, Lost}
 use Rattle.sync_step.specs.declared.Events.{Events}
 use Rattle.sync_step.specs.declared.LastCorr.{LastCorr}
 
 unfoldable pub is_nothing : Event → Bool
 is_nothing Nothing = true
-is_nothing (Head h) = false
+is_nothing (HeadEvent h) = false
 is_nothing (Period p) = false
 is_nothing (Lost at) = false
 
-unfoldable pub event_of : Headed → Event
-event_of NoHead = Nothing
-event_of (OneHead h) = Head h
+unfoldable pub event_of : Option Head → Event
+event_of None = Nothing
+event_of (Some h) = HeadEvent h
 
 unfoldable pub no_events : Events
 no_events = record { first = Nothing; second = Nothing; third = Nothing }

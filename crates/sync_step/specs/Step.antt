@@ -1,5 +1,6 @@
 -- What one symbol makes of a sync.
-use Rattle.std.specs.Prelude.{ℕ, ◌+◌, ◌-◌, ◌%◌, Bool, true, false, eqb, ltb, pos}
+use Rattle.sync_heads.specs.declared.FrameHead.{FrameHead}
+use Rattle.std.specs.Prelude.{ℕ, ◌+◌, ◌-◌, ◌%◌, Bool, true, false, eqb, ltb, pos, None, Option, Some}
 use Rattle.laws.specs.Choice.{when◌then◌else◌}
 use Rattle.sync_corr.specs.declared.Both.{Both}
 use Rattle.sync_corr.specs.Correlate.{size_of}
@@ -9,12 +10,9 @@ use Rattle.sync_lock.specs.declared.Verdict.{Verdict}
 use Rattle.sync_lock.specs.declared.Verdict.TheVariants.{Seeks, Locks, Holds, Loses}
 use Rattle.sync_lock.specs.Period.{leak_of, no_tally, counted_of}
 use Rattle.sync_lock.specs.Rule.{rule_of, lock_after, locked_at}
-use Rattle.sync_heads.specs.declared.Record.{Record}
-use Rattle.sync_heads.specs.declared.Slot.TheVariants.{Unknown}
 use Rattle.sync_heads.specs.declared.Stage.{Stage}
 use Rattle.sync_heads.specs.declared.Stage.TheVariants.{Before, First, Known}
 use Rattle.sync_heads.specs.declared.Reading.{Reading}
-use Rattle.sync_heads.specs.declared.Headed.TheVariants.{Nothing as NoHead}
 use Rattle.sync_heads.specs.declared.Taken.{Taken}
 use Rattle.sync_heads.specs.Heads.{read_of}
 use Rattle.sync_step.specs.declared.Run.{Run}
@@ -27,7 +25,7 @@ use Rattle.sync_step.specs.declared.Step.{Step}
 use Rattle.sync_step.specs.Events.{no_events, no_corr, heads_of, then_of}
 
 -- a new sync at a position; a restarted one "keeps the last frame record"
-unfoldable pub started_of : ℕ → Record → Run
+unfoldable pub started_of : ℕ → Option FrameHead → Run
 started_of at last =
     record {
       base = at;
@@ -35,7 +33,7 @@ started_of at last =
       tally = no_tally;
       lock = Search 0 0;
       stage = Before;
-      course = record { majority = pos 0; slot = Unknown; last = last; misses = 0; stray = 0; missed = 0 };
+      course = record { majority = pos 0; slot = None; last = last; misses = 0; stray = 0; missed = 0 };
     }
 
 -- after t symbols the next one completes the window of position t - 23, counted in the period of n
@@ -50,7 +48,7 @@ unfoldable pub taken_of : ℕ → Run → ℕ → Both → Taken
 taken_of n r p b =
     when locked_at r.lock p
     then read_of n r.stage r.course (reading_of r b)
-    else record { lost = false; stage = r.stage; course = r.course; first = NoHead; second = NoHead }
+    else record { lost = false; stage = r.stage; course = r.course; first = None; second = None }
 
 -- the run after a symbol at position p whose accumulator is now a
 unfoldable pub after_of : Run → ℕ → ℕ → Taken → Run
@@ -58,14 +56,20 @@ after_of r p a k =
     record { base = r.base; t = r.t + 1; tally = counted_of r.tally p a; lock = r.lock; stage = k.stage; course = k.course }
 
 -- ---- losses: "A loss restarts at the next symbol's position and keeps the last frame record. New and restarted syncs zero the accumulators."
-unfoldable pub lost_of : ℕ → Record → Events → Step
+unfoldable pub lost_of : ℕ → Option FrameHead → Events → Step
 lost_of at last es = record { run = started_of at last; stores = Zeros; last = no_corr; events = then_of es (Lost at) }
 
 -- ---- a period's end
+-- the parity of the heads that carry Ssync; 0 while it is not known
 unfoldable pub parity_of : Stage → ℕ
 parity_of Before = 0
 parity_of (First z) = 0
 parity_of (Known p) = when p.odd then 1 else 0
+
+unfoldable pub odd_of : Stage → Bool
+odd_of Before = false
+odd_of (First z) = false
+odd_of (Known p) = p.odd
 
 unfoldable pub is_locked : Lock → Bool
 is_locked (Search cand count) = false
@@ -75,21 +79,24 @@ unfoldable pub offset_of : Lock → ℕ
 offset_of (Search cand count) = 0
 offset_of (Locked offset misses) = offset
 
+unfoldable pub locked_offset : Lock → Option ℕ
+locked_offset (Search cand count) = None
+locked_offset (Locked offset misses) = Some offset
+
 unfoldable pub stats_of : Run → SyncStats
 stats_of r =
     record {
       peak = r.tally.peak;
       peak_pos = r.tally.place;
       sum = r.tally.sum;
-      locked = is_locked r.lock;
-      offset = offset_of r.lock;
-      ssync_parity = parity_of r.stage;
+      offset = locked_offset r.lock;
+      ssync_odd = odd_of r.stage;
       stray_markers = r.course.stray;
       missed_markers = r.course.missed;
     }
 
 -- "Offset 9,295 and a marker loss: `lost`, then a `period` of zeros."
-unfoldable pub lost_at_end : ℕ → Record → Events → Step
+unfoldable pub lost_at_end : ℕ → Option FrameHead → Events → Step
 lost_at_end at last es =
     let s = lost_of at last es in
     record { run = s.run; stores = Zeros; last = s.last; events = then_of s.events (Period (stats_of s.run)) }

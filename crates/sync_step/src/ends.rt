@@ -1,12 +1,14 @@
 // Events, and what a period's end or a loss leaves.
+#![tactic(auto, unfolding(crate::specs::Events::is_nothing, crate::specs::Events::event_of, crate::specs::Events::heads_of, crate::specs::Events::no_events, crate::specs::Events::no_corr, crate::specs::Step::started_of, crate::specs::Step::odd_of, crate::specs::Step::locked_offset, crate::specs::Step::stats_of, crate::specs::Step::loses_of, crate::specs::Step::kept_of, crate::specs::Step::lost_of, crate::specs::Step::lost_at_end, crate::specs::Step::with_lock, sync_lock::specs::Period::no_tally))]
+
 ghost use Rattle.std.specs.Prelude.{◌≡◌, ◌≤◌, ◌<◌, ◌^◌};
 ghost use Rattle.sync_lock.specs.Ranges.{Lockable};
 ghost use Rattle.sync_step.specs.Events.{is_nothing, event_of, then_of, heads_of, no_events, no_corr};
-ghost use Rattle.sync_step.specs.Step.{started_of, parity_of, stats_of, loses_of, lost_of, lost_at_end, with_lock, kept_of, ended_of};
+ghost use Rattle.sync_step.specs.Step.{started_of, odd_of, locked_offset, stats_of, loses_of, lost_of, lost_at_end, kept_of, ended_of};
 
 use crate::{Event, Events, LastCorr, Run, Step, Stores, SyncStats};
 use sync_corr::{Both, Corr};
-use sync_heads::{Course, Headed, Record, Stage, Taken};
+use sync_heads::{Course, FrameHead, Head, Stage, Taken};
 use sync_lock::{Lock, Tally, Verdict};
 
 fn is_nothing(e: Event) -> bool
@@ -20,12 +22,12 @@ fn is_nothing(e: Event) -> bool
     }
 }
 
-fn event_of(h: Headed) -> Event
+fn event_of(h: Option<Head>) -> Event
     ensures { result ≡ event_of h }
 {
     match h {
-        Headed::Nothing => Event::Nothing,
-        Headed::One(head) => Event::Head(head),
+        None => Event::Nothing,
+        Some(head) => Event::Head(head),
     }
 }
 
@@ -33,11 +35,9 @@ fn event_of(h: Headed) -> Event
 pub(crate) fn heads_of(k: Taken) -> Events
     ensures { result ≡ heads_of k }
 {
-    let a = k.first;
-    let b = k.second;
     Events {
-        first: event_of(a),
-        second: event_of(b),
+        first: event_of(k.first),
+        second: event_of(k.second),
         third: Event::Nothing,
     }
 }
@@ -46,26 +46,20 @@ pub(crate) fn heads_of(k: Taken) -> Events
 fn then(es: Events, e: Event) -> Events
     ensures { result ≡ then_of es e }
 {
-    let a = es.first;
-    let b = es.second;
-    if is_nothing(a) {
+    if is_nothing(es.first) {
         Events {
             first: e,
-            second: b,
             third: Event::Nothing,
+            ..es
         }
-    } else if is_nothing(b) {
+    } else if is_nothing(es.second) {
         Events {
-            first: a,
             second: e,
             third: Event::Nothing,
+            ..es
         }
     } else {
-        Events {
-            first: a,
-            second: b,
-            third: e,
-        }
+        Events { third: e, ..es }
     }
 }
 
@@ -92,7 +86,7 @@ pub(crate) fn no_corr() -> LastCorr
 }
 
 // A sync that starts at a position, with the last frame record.
-pub(crate) fn started(at: u64, last: Record) -> Run
+pub(crate) fn started(at: u64, last: Option<FrameHead>) -> Run
     ensures { result ≡ started_of at last }
 {
     Run {
@@ -107,8 +101,8 @@ pub(crate) fn started(at: u64, last: Record) -> Run
         stage: Stage::Before,
         course: Course {
             majority: 0,
-            slot: sync_heads::Slot::Unknown,
-            last: last,
+            slot: None,
+            last,
             misses: 0,
             stray: 0,
             missed: 0,
@@ -116,14 +110,23 @@ pub(crate) fn started(at: u64, last: Record) -> Run
     }
 }
 
-// 1 if the odd heads carry Ssync, and 0 while that is not known.
-fn parity(k: Stage) -> u8
-    ensures { result ≡ parity_of k }
+// The odd heads carry Ssync; while that is not known, none is said to.
+fn odd(k: Stage) -> bool
+    ensures { result ≡ odd_of k }
 {
     match k {
-        Stage::Before => 0,
-        Stage::First(_) => 0,
-        Stage::Known(p) => { if p.odd { 1 } else { 0 } }
+        Stage::Before => false,
+        Stage::First(_) => false,
+        Stage::Known(p) => p.odd,
+    }
+}
+
+fn offset(k: Lock) -> Option<u16>
+    ensures { result ≡ locked_offset k }
+{
+    match k {
+        Lock::Search { cand: _, count: _ } => None,
+        Lock::Locked { offset, misses: _ } => Some(offset),
     }
 }
 
@@ -131,62 +134,37 @@ fn parity(k: Stage) -> u8
 fn stats(r: Run) -> SyncStats
     ensures { result ≡ stats_of r }
 {
-    let t = r.tally;
-    let k = r.lock;
-    let c = r.course;
-    let s = r.stage;
-    let odd = parity(s);
-    match k {
-        Lock::Search { cand: _, count: _ } => SyncStats {
-            peak: t.peak,
-            peak_pos: t.place,
-            sum: t.sum,
-            locked: false,
-            offset: 0,
-            ssync_parity: odd,
-            stray_markers: c.stray,
-            missed_markers: c.missed,
-        },
-        Lock::Locked { offset, misses: _ } => SyncStats {
-            peak: t.peak,
-            peak_pos: t.place,
-            sum: t.sum,
-            locked: true,
-            offset: offset,
-            ssync_parity: odd,
-            stray_markers: c.stray,
-            missed_markers: c.missed,
-        },
+    SyncStats {
+        peak: r.tally.peak,
+        peak_pos: r.tally.place,
+        sum: r.tally.sum,
+        offset: offset(r.lock),
+        ssync_odd: odd(r.stage),
+        stray_markers: r.course.stray,
+        missed_markers: r.course.missed,
     }
 }
 
 // A loss: the sync starts anew at the next symbol's position.
-pub(crate) fn lost(at: u64, last: Record, es: Events) -> Step
+pub(crate) fn lost(at: u64, last: Option<FrameHead>, es: Events) -> Step
     ensures { result ≡ lost_of at last es }
 {
-    let r = started(at, last);
-    let z = no_corr();
     Step {
-        run: r,
+        run: started(at, last),
         stores: Stores::Zeros,
-        last: z,
+        last: no_corr(),
         events: then(es, Event::Lost(at)),
     }
 }
 
 // A loss by markers on the last position of a period: that period ends, in the restarted sync.
-pub(crate) fn lost_at_end(at: u64, last: Record, es: Events) -> Step
+pub(crate) fn lost_at_end(at: u64, last: Option<FrameHead>, es: Events) -> Step
     ensures { result ≡ lost_at_end at last es }
 {
     let s = lost(at, last, es);
-    let r = s.run;
-    let e = s.events;
-    let z = s.last;
     Step {
-        run: r,
-        stores: Stores::Zeros,
-        last: z,
-        events: then(e, Event::Period(stats(r))),
+        events: then(s.events, Event::Period(stats(s.run))),
+        ..s
     }
 }
 
@@ -204,22 +182,6 @@ fn loses(v: Verdict) -> bool
     }
 }
 
-fn with_lock(r: Run, k: Lock) -> Run
-    ensures { result ≡ with_lock r k }
-{
-    let y = r.tally;
-    let s = r.stage;
-    let c = r.course;
-    Run {
-        base: r.base,
-        t: r.t,
-        tally: y,
-        lock: k,
-        stage: s,
-        course: c,
-    }
-}
-
 // The step that stores one accumulator.
 pub(crate) fn kept(r: Run, last: LastCorr, es: Events) -> Step
     ensures { result ≡ kept_of r last es }
@@ -227,7 +189,7 @@ pub(crate) fn kept(r: Run, last: LastCorr, es: Events) -> Step
     Step {
         run: r,
         stores: Stores::One(last.level),
-        last: last,
+        last,
         events: es,
     }
 }
@@ -237,15 +199,14 @@ pub(crate) fn ended(r: Run, last: LastCorr, es: Events) -> Step
     requires { (Lockable r.lock) × (r.tally.sum ≤ 2 ^ 62) × (r.base ≤ 2 ^ 62) × (r.t ≤ 2 ^ 62) }
     ensures { result ≡ ended_of 9296 r last es }
 {
-    let k = r.lock;
-    let y = r.tally;
-    let v = sync_lock::ranged::rule(k, y);
+    let v = sync_lock::ranged::rule(r.lock, r.tally);
     if loses(v) {
-        let c = r.course;
-        let f = c.last;
-        lost(r.base + r.t, f, es)
+        lost(r.base + r.t, r.course.last, es)
     } else {
-        let n = with_lock(r, sync_lock::plain::lock_after(v));
+        let n = Run {
+            lock: sync_lock::plain::lock_after(v),
+            ..r
+        };
         kept(n, last, then(es, Event::Period(stats(n))))
     }
 }

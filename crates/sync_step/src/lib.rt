@@ -21,15 +21,15 @@ pub struct Run {
     pub course: Course,
 }
 
-// The statistics of a period, after the lock rule.
+// The statistics of a period, after the lock rule: the first greatest accumulator and where it stood, the sum of all, the locked offset, whether the
+// odd heads carry Ssync, as far as is known, and the counters of the marks.
 #[derive(Clone, Copy)]
 pub struct SyncStats {
     pub peak: u32,
     pub peak_pos: u16,
     pub sum: u64,
-    pub locked: bool,
-    pub offset: u16,
-    pub ssync_parity: u8,
+    pub offset: Option<u16>,
+    pub ssync_odd: bool,
     pub stray_markers: u32,
     pub missed_markers: u32,
 }
@@ -43,7 +43,8 @@ pub enum Event {
     Lost(u64),
 }
 
-// In order, from the first place on.
+// In order, from the first place on. Three named places and no array of Options: the rules of the story speak of each by its name, and an event says
+// itself whether it is one.
 #[derive(Clone, Copy)]
 pub struct Events {
     pub first: Event,

@@ -4,10 +4,10 @@ ghost use Rattle.sync_step.specs.Step.{started_of, place_of};
 ghost use Rattle.sync_step.specs.Ranges.{run_in_range};
 
 use crate::{Run, ends};
-use sync_heads::Record;
+use sync_heads::FrameHead;
 
 // A sync that starts at a position, with the last frame record.
-pub fn started(at: u64, last: Record) -> Run
+pub fn started(at: u64, last: Option<FrameHead>) -> Run
     ensures { result ≡ started_of at last }
 {
     ends::started(at, last)
@@ -28,13 +28,9 @@ pub fn place(t: u64) -> usize
 pub fn in_range(r: Run) -> bool
     ensures { result ≡ run_in_range r }
 {
-    let y = r.tally;
-    let l = r.lock;
-    let k = r.stage;
-    let c = r.course;
     (r.t <= 4611686018427387904)
-        & sync_lock::plain::tally_in_range(y)
-        & sync_lock::plain::lock_in_range(l)
-        & sync_heads::plain::stage_in_range(k)
-        & sync_heads::plain::course_in_range(c)
+        & sync_lock::plain::tally_in_range(r.tally)
+        & sync_lock::plain::lock_in_range(r.lock)
+        & sync_heads::plain::stage_in_range(r.stage)
+        & sync_heads::plain::course_in_range(r.course)
 }

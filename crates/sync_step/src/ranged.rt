@@ -1,4 +1,6 @@
 // For the slot sync and the receiver, which prove the ranges.
+#![tactic(auto, unfolding(crate::specs::Step::early_of, crate::specs::Step::after_of))]
+
 ghost use Rattle.std.specs.Prelude.{◌≡◌, ◌+◌, ◌≤◌, ◌<◌};
 ghost use Rattle.sync_heads.specs.Ready.{Smalls};
 ghost use Rattle.sync_step.specs.Step.{taken_of, after_of, late_of, early_of, step_of};
@@ -6,26 +8,23 @@ ghost use Rattle.sync_step.specs.Ranges.{RunOk};
 
 use crate::{LastCorr, Run, Step, Stores, ends};
 use sync_corr::Both;
-use sync_heads::{Headed, Reading, Taken};
+use sync_heads::{Reading, Taken};
 
 // What the window at position p is read as: a head, if the sync is locked there.
 fn taken(r: Run, p: usize, b: Both) -> Taken
     requires { (RunOk r) × (Smalls b) × (23 ≤ r.t) }
     ensures { result ≡ taken_of 9296 r p b }
 {
-    let k = r.lock;
-    let s = r.stage;
-    let c = r.course;
-    if sync_lock::plain::locked_at(k, p) {
+    if sync_lock::plain::locked_at(r.lock, p) {
         let at = r.base + r.t - 23;
-        sync_heads::ranged::read(s, c, Reading { at: at, both: b })
+        sync_heads::ranged::read(r.stage, r.course, Reading { at, both: b })
     } else {
         Taken {
             lost: false,
-            stage: s,
-            course: c,
-            first: Headed::Nothing,
-            second: Headed::Nothing,
+            stage: r.stage,
+            course: r.course,
+            first: None,
+            second: None,
         }
     }
 }
@@ -35,17 +34,12 @@ fn after(r: Run, p: usize, a: u32, k: Taken) -> Run
     requires { (RunOk r) × (p < 9296) }
     ensures { result ≡ after_of r p a k }
 {
-    let y = r.tally;
-    let l = r.lock;
-    let s = k.stage;
-    let c = k.course;
     Run {
-        base: r.base,
         t: r.t + 1,
-        tally: sync_lock::ranged::counted(y, p, a),
-        lock: l,
-        stage: s,
-        course: c,
+        tally: sync_lock::ranged::counted(r.tally, p, a),
+        stage: k.stage,
+        course: k.course,
+        ..r
     }
 }
 
@@ -59,8 +53,7 @@ fn late(r: Run, b: Both, a: u32) -> Step
     let k = taken(r, p, b);
     let es = ends::heads_of(k);
     if k.lost {
-        let c = k.course;
-        let f = c.last;
+        let f = k.course.last;
         if p == 9295 {
             ends::lost_at_end(r.base + r.t + 1, f, es)
         } else {
@@ -68,10 +61,7 @@ fn late(r: Run, b: Both, a: u32) -> Step
         }
     } else {
         let n = after(r, p, level, k);
-        let last = LastCorr {
-            both: b,
-            level: level,
-        };
+        let last = LastCorr { both: b, level };
         if p == 9295 {
             ends::ended(n, last, es)
         } else {
@@ -85,25 +75,11 @@ fn early(r: Run) -> Step
     requires { RunOk r }
     ensures { result ≡ early_of r }
 {
-    let y = r.tally;
-    let l = r.lock;
-    let k = r.stage;
-    let c = r.course;
-    let n = Run {
-        base: r.base,
-        t: r.t + 1,
-        tally: y,
-        lock: l,
-        stage: k,
-        course: c,
-    };
-    let z = ends::no_corr();
-    let es = ends::no_events();
     Step {
-        run: n,
+        run: Run { t: r.t + 1, ..r },
         stores: Stores::Nothing,
-        last: z,
-        events: es,
+        last: ends::no_corr(),
+        events: ends::no_events(),
     }
 }
 

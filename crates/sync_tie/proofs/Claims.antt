@@ -1,7 +1,8 @@
 -- The claims of specs/Claims.antt. Assumes nothing.
+use Rattle.std.specs.Prelude.{Option}
+use Rattle.sync_heads.specs.declared.FrameHead.{FrameHead}
 use Prim.Native.Nat.{◌%◌, ◌+◌, ◌-◌, ◌/◌, ◌<◌, ◌≤◌, suc, ℕ}
 use Rattle.laws.proofs.Tests.{by_test, never}
-use Rattle.sync_heads.specs.declared.Record.{Record}
 use Rattle.sync_history.proofs.Theorems.{lock_theorem, no_lock_before}
 use Rattle.sync_history.specs.Claims.{RuleTells, lock_to}
 use Rattle.sync_history.specs.History.{LockIn}
@@ -31,7 +32,7 @@ use native.Mathlib.Omega.{arith}
 -- for every list of pushes: the loss by markers
 pub use Rattle.sync_tie.proofs.Markers.{markers_are}
 
-module _ (n base : ℕ) (last : Record) (h : List Push) where
+module _ (n base : ℕ) (last : Option FrameHead) (h : List Push) where
   lock-is : (m : ℕ) → 0 < n → m ≤ length h → Kept n base last h m → (after n base last h m).sync.run.lock ≡ lock_to n (size_at h) ((m - 23) / n)
   unfolding lock_at
   lock-is m z l k = ap (λ (u : Run). u.lock) (follows n base last h m z l k).run
@@ -73,7 +74,7 @@ heads_after_lock n base last h m z l k =
     }
 
 -- each reading after the lock in period k is a reading, if nothing has lost before
-is_reading : (n base : ℕ) (last : Record) (h : List Push) (k p j : ℕ) → 0 < n → p < n → LockIn n (size_at h) p k → Kept n base last h (reading n base last h k p j + 23) →
+is_reading : (n base : ℕ) (last : Option FrameHead) (h : List Push) (k p j : ℕ) → 0 < n → p < n → LockIn n (size_at h) p k → Kept n base last h (reading n base last h k p j + 23) →
     reads_at n base last h (reading n base last h k p j) ≡ true
 is_reading n base last h k p j z b f kept =
     let d = parts n (k + 1 + j) p z b in

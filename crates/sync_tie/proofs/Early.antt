@@ -1,8 +1,9 @@
 -- The first 4 n + 23 symbols lose nothing, whatever they are: `Kept` holds of them. Assumes nothing.
+use Rattle.std.specs.Prelude.{Option}
+use Rattle.sync_heads.specs.declared.FrameHead.{FrameHead}
 use Prim.Native.Nat.{◌%◌, ◌*◌, ◌+◌, ◌/◌, ◌<◌, ◌≤◌, suc, zero, ℕ}
 use Rattle.laws.proofs.Tests.{by_test, if_both, never}
 use Rattle.laws.specs.Choice.{if_no, when◌then◌else◌}
-use Rattle.sync_heads.specs.declared.Record.{Record}
 use Rattle.sync_heads.specs.declared.Taken.{Taken}
 use Rattle.sync_history.proofs.Rule.{rule_tells}
 use Rattle.sync_history.specs.Claims.{LosesIn, lock_to}
@@ -36,7 +37,7 @@ none_loses n s zero b j l = absurd (omega arith)
 none_loses n s (suc k) b j l =
     λ q. let w = ((rule_tells n s j (λ i g. none_loses n s k (omega arith) i (omega arith))).loses_only q).1 in omega (arith, w.after, w.falls.fourth.enough)
 
-module _ (n base : ℕ) (last : Record) (h : List Push) where
+module _ (n base : ℕ) (last : Option FrameHead) (h : List Push) where
   none_reads : (c : ℕ) → c / n < 4 → reads_at n base last h c ≡ false
   none_reads c b =
       by_test (reads_at n base last h c)

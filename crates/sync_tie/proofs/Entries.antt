@@ -1,39 +1,24 @@
 -- The entries of crate sync, as the story has them. Assumes nothing.
-use Rattle.laws.proofs.Size.{at}
-use Rattle.laws.proofs.Tests.{by_test}
-use Rattle.laws.specs.Choice.{if_no, if_yes}
-use Rattle.sync.specs.Answers.{accepted_acc, accepted_push, push_acc, push_answer, push_refusal, refused_push, restart_acc, restart_answer, restart_refusal}
-use Rattle.sync.specs.Sync.{started_sync}
-use Rattle.sync.specs.declared.Pushed.{Pushed}
-use Rattle.sync.specs.declared.Started.{Started}
-use Rattle.sync_tie.specs.Claims.{EntryClaim, RestartClaim}
+use Rattle.std.specs.Prelude.{Result, Ok, Err, IsOk, ⊤}
+use Rattle.std.proofs.Common.{◌≡◌, refl, sym}
+use Rattle.laws.proofs.Tests.{never}
+use Rattle.refusal.specs.Refusals.{answered}
+use Rattle.refusal.specs.declared.Refusal.{Refusal}
+use Rattle.sync.specs.Answers.{accepted_acc, accepted_push, push_acc, push_answer, push_refusal, restart_acc, restart_answer, restart_refusal}
+use Rattle.sync_tie.specs.Claims.{EntryClaim, EntryIs, RestartClaim, RestartIs}
 use Rattle.sync_tie.specs.Tie.{push_on}
-use borrow.Author.Tests.{eqb-false}
-use lib.Dec.{eqb}
-use lib.ListN.{length, replicate}
-use mathlib.Core.Path.{◌∙◌, ap, sym}
+use lib.ListN.{length}
+
+-- an answer is taken where its test let the call through
+by_answer : {T S X : Type 0} (r : Result ⊤ Refusal) (s : S) (a : T) → IsOk (answered r s a) → (r ≡ Ok tt → X) → X
+by_answer (Ok x) s a e f = f refl
+by_answer (Err why) s a e f = absurd (never (sym e))
 
 pub entry_is : EntryClaim
-unfolding push_answer push_acc accepted_push accepted_acc refused_push push_on
+unfolding push_answer push_acc accepted_push accepted_acc push_on
 entry_is s p acc e =
-    let n = push_refusal (length acc) p.f p.w s.run in
-    let a = accepted_push s p.i p.q p.f p.w acc in
-    by_test (eqb n 0)
-    (λ t.
-    let w = if_yes (eqb n 0) a (refused_push n s) t in
-    record {
-      sync = ap (λ (r : Pushed). r.sync) w;
-      events = ap (λ (r : Pushed). r.events) w;
-      stored = if_yes (eqb n 0) (accepted_acc s p.i p.q p.f p.w acc) acc t;
-    })
-    (λ t. absurd (eqb-false n 0 t (sym (ap (λ (r : Pushed). r.refusal) (if_no (eqb n 0) a (refused_push n s) t)) ∙ e)))
+    by_answer (push_refusal (length acc) p.f p.w s.run) s _ e (λ r. record { sync = rw r refl; events = rw r refl; stored = rw r refl })
 
 pub restart_is : RestartClaim
 unfolding restart_answer restart_acc
-restart_is s at acc e =
-    let n = restart_refusal (length acc) at s.run in
-    let a : Started = record { refusal = 0; sync = started_sync at s.run.course.last } in
-    let b : Started = record { refusal = n; sync = s } in
-    by_test (eqb n 0)
-    (λ t. record { sync = ap (λ (r : Started). r.sync) (if_yes (eqb n 0) a b t); stored = if_yes (eqb n 0) (replicate (length acc) 0) acc t })
-    (λ t. absurd (eqb-false n 0 t (sym (ap (λ (r : Started). r.refusal) (if_no (eqb n 0) a b t)) ∙ e)))
+restart_is s at acc e = by_answer (restart_refusal (length acc) at s.run) s _ e (λ r. record { sync = rw r refl; stored = rw r refl })

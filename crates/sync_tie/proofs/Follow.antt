@@ -1,10 +1,11 @@
 -- THE TIE: by induction on the pushes, a sync stands as they say until one loses. Assumes nothing.
+use Rattle.std.specs.Prelude.{Option, None}
+use Rattle.sync_heads.specs.declared.FrameHead.{FrameHead}
 use Prim.Native.Nat.{◌%◌, ◌+◌, ◌-◌, ◌/◌, ◌<◌, ◌≤◌, suc, zero, ℕ}
 use Rattle.laws.proofs.Tests.{by_test}
 use Rattle.laws.specs.Choice.{if_no, if_yes}
 use Rattle.sync.specs.Sync.{kept_window, started_sync, stored_of, symbol_of, window_after}
 use Rattle.sync_corr.specs.Correlate.{both_of}
-use Rattle.sync_heads.specs.declared.Record.{Record}
 use Rattle.sync_history.specs.Claims.{lock_to}
 use Rattle.sync_history.specs.History.{acc_after, figures_to}
 use Rattle.sync_lock.specs.Period.{counted_of}
@@ -32,7 +33,7 @@ use native.Mathlib.Nat.{zero-div, zero-mod}
 use native.Mathlib.Numerals.{add-one}
 use native.Mathlib.Omega.{arith}
 
-module _ (n base : ℕ) (last : Record) (h : List Push) where
+module _ (n base : ℕ) (last : Option FrameHead) (h : List Push) where
   -- ---- the periods of a place, with one position more
   periods-here : (c : ℕ) → 0 < n → periods_at n base last h (suc c) (c % n) ≡ suc (c / n)
   unfolding periods_at

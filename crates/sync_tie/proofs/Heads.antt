@@ -1,4 +1,6 @@
 -- Heads among the events: none without a reading, and one at each reading from the second on. Assumes nothing.
+use Rattle.sync_heads.specs.declared.FrameHead.{FrameHead}
+use Rattle.std.specs.Prelude.{None, Some, Option}
 use Prim.Native.Nat.{◌+◌, ◌-◌, ◌<◌, ◌≤◌, suc, zero, ℕ}
 use Rattle.laws.proofs.Tests.{by_test, if_both, if_either, never}
 use Rattle.laws.specs.Choice.{if_no, if_yes, when◌then◌else◌}
@@ -8,7 +10,6 @@ use Rattle.sync_heads.specs.Heads.{both_heads, first_of, fsync_of, fsync_taken, 
 use Rattle.sync_heads.specs.Words.{margin_of, said_of}
 use Rattle.sync_heads.specs.declared.Course.{Course}
 use Rattle.sync_heads.specs.declared.Reading.{Reading}
-use Rattle.sync_heads.specs.declared.Record.{Record}
 use Rattle.sync_heads.specs.declared.Stage.TheVariants.{Before, First, Known}
 use Rattle.sync_heads.specs.declared.Stage.{Stage}
 use Rattle.sync_heads.specs.declared.Taken.{Taken}
@@ -29,7 +30,6 @@ use mathlib.Core.List.{List}
 use mathlib.Core.Logic.{◌⊎◌, inl, inr}
 use mathlib.Core.Path.{◌∙◌, ◌≡◌, ap, refl, sym}
 use native.Mathlib.Omega.{arith}
-use Rattle.sync_heads.specs.declared.Headed.TheVariants.{Nothing as NoHead, One as OneHead}
 use Rattle.sync_step.specs.declared.Event.TheVariants.{Nothing, Head, Period, Lost}
 
 -- ---- no head
@@ -99,8 +99,8 @@ unfolding fsync_of event_of head_of
 fsync_has n c r last =
     let w = said_of false r.both last in
     let m = fsync_course n (is_fsync w.word) c r.at in
-    let a : Told = record { lost = true; course = m.course; head = NoHead } in
-    let b : Told = record { lost = false; course = m.course; head = OneHead (head_of w r.at m.course.slot) } in
+    let a : Told = record { lost = true; course = m.course; head = None } in
+    let b : Told = record { lost = false; course = m.course; head = Some (head_of w r.at m.course.slot) } in
     if_both (λ (t : Told). t.lost ≡ false → HeadAt r.at (event_of t.head)) m.lost a b (λ e. absurd (never e)) (λ e. refl)
 
 ssync_has : (c : Course) (r : Reading) → HeadAt r.at (event_of (ssync_of c r).head)
@@ -130,7 +130,7 @@ read_tells n (First z) c r b =
 read_tells n (Known p) c r b =
     if_both (Tells r.at) p.due (ssync_taken p.odd c r) (fsync_taken n p.odd p.last c r) (ssync_tells p.odd c r) (fsync_tells n p.odd p.last c r)
 
-module _ (n base : ℕ) (last : Record) (h : List Push) where
+module _ (n base : ℕ) (last : Option FrameHead) (h : List Push) where
   -- ---- what a position tells has the heads that it was taken for, and no others
   module _ (P : Events → Type 0) (c : ℕ) (more : (es : Events) (e : Event) → is_head e ≡ false → P es → P (then_of es e)) where
     pub told-as : P (heads_of (taken_at n base last h c)) → P (told_at n base last h c)
@@ -148,17 +148,17 @@ module _ (n base : ℕ) (last : Record) (h : List Push) where
         (if_both P d (when w then lost else ended) (heads_of k) (if_both P w lost ended q (more (heads_of k) (Period (stats_at n base last h c)) refl p)) p)
 
   pub taken-other : (c : ℕ) → reads_at n base last h c ≡ false →
-      taken_at n base last h c ≡ record { lost = false; stage = (heard_to n base last h c).stage; course = (heard_to n base last h c).course; first = NoHead; second = NoHead }
+      taken_at n base last h c ≡ record { lost = false; stage = (heard_to n base last h c).stage; course = (heard_to n base last h c).course; first = None; second = None }
   unfolding taken_at
   taken-other c r =
       let e = heard_to n base last h c in
-      if_no (reads_at n base last h c) (read_of n e.stage e.course (reading_at n base last h c)) (record { lost = false; stage = e.stage; course = e.course; first = NoHead; second = NoHead }) r
+      if_no (reads_at n base last h c) (read_of n e.stage e.course (reading_at n base last h c)) (record { lost = false; stage = e.stage; course = e.course; first = None; second = None }) r
 
   pub taken-reading : (c : ℕ) → reads_at n base last h c ≡ true → taken_at n base last h c ≡ read_of n (heard_to n base last h c).stage (heard_to n base last h c).course (reading_at n base last h c)
   unfolding taken_at
   taken-reading c r =
       let e = heard_to n base last h c in
-      if_yes (reads_at n base last h c) (read_of n e.stage e.course (reading_at n base last h c)) (record { lost = false; stage = e.stage; course = e.course; first = NoHead; second = NoHead }) r
+      if_yes (reads_at n base last h c) (read_of n e.stage e.course (reading_at n base last h c)) (record { lost = false; stage = e.stage; course = e.course; first = None; second = None }) r
 
   pub told_none : (c : ℕ) → reads_at n base last h c ≡ false → any_head (told_at n base last h c) ≡ false
   unfolding heads_of event_of is_head

@@ -1,8 +1,9 @@
 -- As long as no push loses, no period that they complete does: the lock is what happened. Assumes nothing.
+use Rattle.std.specs.Prelude.{Option}
+use Rattle.sync_heads.specs.declared.FrameHead.{FrameHead}
 use Prim.Native.Nat.{◌%◌, ◌*◌, ◌+◌, ◌-◌, ◌/◌, ◌<◌, ◌≤◌, suc, ℕ}
 use Rattle.laws.proofs.Tests.{by_test, never}
 use Rattle.laws.specs.Choice.{if_no, if_yes, when◌then◌else◌}
-use Rattle.sync_heads.specs.declared.Record.{Record}
 use Rattle.sync_history.proofs.Rule.{rule_tells}
 use Rattle.sync_history.specs.Claims.{LockedBy, LosesIn, RuleTells, lock_to}
 use Rattle.sync_history.specs.History.{LockBy, end_of, figures}
@@ -62,7 +63,7 @@ locked_by n s p m z l =
       falls = l.falls.falls;
     }
 
-module _ (n base : ℕ) (last : Record) (h : List Push) where
+module _ (n base : ℕ) (last : Option FrameHead) (h : List Push) where
   period-kept : (c : ℕ) → loses_at n base last h c ≡ false → ends_at n base last h c ≡ true → period_loses n base last h c ≡ false
   unfolding loses_at
   period-kept c e b =

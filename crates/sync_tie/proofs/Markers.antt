@@ -1,7 +1,8 @@
 -- The loss by markers, as a test of a position, is the loss by markers. Assumes nothing.
+use Rattle.std.specs.Prelude.{Option, None, Some}
+use Rattle.sync_heads.specs.declared.FrameHead.{FrameHead}
 use Prim.Native.Nat.{◌%◌, ◌*◌, ◌+◌, ◌/◌, ◌<◌, ℕ}
 use Rattle.laws.proofs.Tests.{and_both, never}
-use Rattle.sync_heads.specs.declared.Record.{Record}
 use Rattle.sync_history.proofs.Found.{lock-found}
 use Rattle.sync_history.proofs.Read.{markers-tell}
 use Rattle.sync_history.specs.Heads.{MarkerLoss, markers_lose}
@@ -18,12 +19,12 @@ use mathlib.Core.Option.{none, some}
 use mathlib.Core.Path.{◌∙◌, ◌≡◌, ap, refl, subst, sym}
 use native.Mathlib.Omega.{arith}
 
-module _ (n base : ℕ) (last : Record) (h : List Push) (c : ℕ) (z : 0 < n) where
-  with-lock : (k : ℕ) → lock_before n base last h c ≡ some k → markers_lose_at n base last h c ≡ (reads_in n base last h k c && markers_lose (both_in n base last h k) (count_in n base last h k c))
+module _ (n base : ℕ) (last : Option FrameHead) (h : List Push) (c : ℕ) (z : 0 < n) where
+  with-lock : (k : ℕ) → lock_before n base last h c ≡ Some k → markers_lose_at n base last h c ≡ (reads_in n base last h k c && markers_lose (both_in n base last h k) (count_in n base last h k c))
   unfolding markers_lose_at markers_in
   with-lock k e = rw e
 
-  no_lock : lock_before n base last h c ≡ none → markers_lose_at n base last h c ≡ false
+  no_lock : lock_before n base last h c ≡ None → markers_lose_at n base last h c ≡ false
   unfolding markers_lose_at markers_in
   no_lock e = rw e
 
@@ -37,7 +38,7 @@ module _ (n base : ℕ) (last : Record) (h : List Push) (c : ℕ) (z : 0 < n) wh
         let d = parts n (k + 1 + x.number) x.place z (place_in_lem n (size_at h) x.place k x.falls) in
         (ap (λ (y : ℕ). y / n) x.reading ∙ d.0, ap (λ (y : ℕ). y % n) x.reading ∙ d.1)
 
-    found : (lock_before n base last h c ≡ some k) × (place_in n base last h k ≡ x.place)
+    found : (lock_before n base last h c ≡ Some k) × (place_in n base last h k ≡ x.place)
     unfolding lock_before place_in
     found = (lock-found n (size_at h) (c / n)).found x.place k x.falls (omega (arith, split.0))
 
@@ -56,7 +57,7 @@ module _ (n base : ℕ) (last : Record) (h : List Push) (c : ℕ) (z : 0 < n) wh
     loses = with-lock k found.0 ∙ rw (reads, count, (markers-tell (both_in n base last h k) x.number).loses second) refl
 
   -- ---- and what is found is one
-  lost-with : (k : ℕ) → lock_before n base last h c ≡ some k → markers_lose_at n base last h c ≡ true → LostByMarkers n h c
+  lost-with : (k : ℕ) → lock_before n base last h c ≡ Some k → markers_lose_at n base last h c ≡ true → LostByMarkers n h c
   unfolding both_in
   lost-with k e m =
       let w = and_both (reads_in n base last h k c) (markers_lose (both_in n base last h k) (count_in n base last h k c)) (sym (with-lock k e) ∙ m) in
@@ -70,7 +71,7 @@ module _ (n base : ℕ) (last : Record) (h : List Push) (c : ℕ) (z : 0 < n) wh
         second = (markers-tell (both_in n base last h k) (count_in n base last h k c)).loses_only w.1;
       }
     where
-      lock-in : (k : ℕ) → lock_before n base last h c ≡ some k → LockIn n (size_at h) (place_in n base last h k) k
+      lock-in : (k : ℕ) → lock_before n base last h c ≡ Some k → LockIn n (size_at h) (place_in n base last h k) k
       lock-in k e = unfold lock_before place_in in ((lock-found n (size_at h) (c / n)).found_only k e).1
 
   loses_only : markers_lose_at n base last h c ≡ true → LostByMarkers n h c

@@ -1,14 +1,14 @@
 -- The fold of a stretch (Story) is what the rules say of it (specs/Stretch), as long as no position before has lost. Assumes nothing.
+use Rattle.sync_heads.specs.declared.FrameHead.{FrameHead}
+use Rattle.std.specs.Prelude.{Option, None, Some}
+use Rattle.sync_heads.specs.declared.Head.{Head}
 use Prim.Native.Nat.{◌%◌, ◌*◌, ◌+◌, ◌-◌, ◌/◌, ◌<◌, ◌≤◌, suc, zero, ℕ}
 use Rattle.laws.proofs.Tests.{and_both, by_test, if_cong, neither, never}
 use Rattle.laws.specs.Choice as choice
 use Rattle.laws.specs.Choice.{if_no, if_yes, when◌then◌else◌}
 use Rattle.sync_corr.specs.declared.Both.{Both}
 use Rattle.sync_heads.specs.declared.Course.{Course}
-use Rattle.sync_heads.specs.declared.Headed.TheVariants.{Nothing as NoHead}
-use Rattle.sync_heads.specs.declared.Headed.{Headed}
 use Rattle.sync_heads.specs.declared.Reading.{Reading}
-use Rattle.sync_heads.specs.declared.Record.{Record}
 use Rattle.sync_heads.specs.declared.Stage.{Stage}
 use Rattle.sync_heads.specs.declared.Taken.{Taken}
 use Rattle.sync_history.proofs.Course.{course_to}
@@ -17,7 +17,7 @@ use Rattle.sync_history.proofs.Firsts.{by_first, first_found, first-is, first_st
 use Rattle.sync_history.proofs.Found.{lock-found}
 use Rattle.sync_history.proofs.Read.{ReadIs, course-last, course-missed, course-stray, course-zero, read_is, stage_to}
 use Rattle.sync_history.specs.Claims.{RuleTells, lock_to}
-use Rattle.sync_history.specs.Heads.{first_told, markers_lose, parity, position_at, second_told}
+use Rattle.sync_history.specs.Heads.{first_told, markers_lose, ssync_odd, position_at, second_told}
 use Rattle.sync_history.specs.History.{LockIn, acc_after, eighth_at, figures, figures_to, first_to, fourth_at, lock_in}
 use Rattle.sync_lock.specs.Period.{counts_of, no_tally}
 use Rattle.sync_lock.specs.Rule.{locked_at, rule_of}
@@ -25,7 +25,7 @@ use Rattle.sync_lock.specs.declared.Lock.TheVariants.{Locked, Search}
 use Rattle.sync_lock.specs.declared.Lock.{Lock}
 use Rattle.sync_lock.specs.declared.Tally.{Tally}
 use Rattle.sync_step.specs.Events.{event_of, heads_of, no_events, then_of}
-use Rattle.sync_step.specs.Step.{is_locked, loses_of, offset_of, parity_of, started_of, stats_of}
+use Rattle.sync_step.specs.Step.{is_locked, loses_of, offset_of, odd_of, locked_offset, started_of, stats_of}
 use Rattle.sync_step.specs.declared.Event.TheVariants.{Lost, Nothing, Period}
 use Rattle.sync_step.specs.declared.SyncStats.{SyncStats}
 use Rattle.sync_tie.proofs.Early.{loses_true}
@@ -42,7 +42,6 @@ use borrow.Author.Tests.{eqb-false, eqb-true, le-ltb, lt-ltb, ltb-false, ltb-tru
 use lib.Dec.{eqb, leb, ltb}
 use mathlib.Core.Bool.{Bool, ◌&&◌, ◌||◌, false, true}
 use mathlib.Core.List.{List}
-use mathlib.Core.Option.{Option, none, some}
 use mathlib.Core.Path.{◌∙◌, ◌≡◌, ap, refl, subst, sym}
 use native.Mathlib.Nat.{zero-div}
 use native.Mathlib.Omega.{arith}
@@ -56,10 +55,10 @@ place_in_lem n s p k l =
     let b = and_both (ltb 0 (figures_to f n).peak) (leb (3 * (figures_to f n).sum) ((figures_to f n).peak * n)) c.counts in
     omega (arith, ((first_greatest f n).there (ltb-true 0 (figures_to f n).peak b.0)).0, c.place)
 
-none_some : {f : ℕ} → (◌≡◌ {A = Option ℕ} none (some f)) → ⊥
+none_some : {f : ℕ} → (◌≡◌ {A = Option ℕ} None (Some f)) → ⊥
 none_some e = let z : ◌≡◌ {A = ℕ} 0 1 = cc in omega arith
 
-same_some : {f g : ℕ} → (◌≡◌ {A = Option ℕ} (some f) (some g)) → f ≡ g
+same_some : {f g : ℕ} → (◌≡◌ {A = Option ℕ} (Some f) (Some g)) → f ≡ g
 same_some e = cc
 
 locked_none : (k : Lock) (p : ℕ) → is_locked k ≡ false → locked_at k p ≡ false
@@ -67,7 +66,7 @@ unfolding is_locked locked_at
 locked_none (Search cand count) p e = refl
 locked_none (Locked offset misses) p e = absurd (never e)
 
-module _ (n base : ℕ) (last : Record) (h : List Push) where
+module _ (n base : ℕ) (last : Option FrameHead) (h : List Push) where
   -- no position before c has lost, by the fold
   abbrev Before : ℕ → Type 0
   Before c = (i : ℕ) → i < c → fold.loses_at n base last h i ≡ false
@@ -79,7 +78,7 @@ module _ (n base : ℕ) (last : Record) (h : List Push) where
 
   -- ---- the lock: the fold has it as the rule does
   module _ (k : ℕ) (t : RuleTells n (size_at h) k) where
-    lock_none : lock_in n (size_at h) k ≡ none → is_locked (lock_to n (size_at h) k) ≡ false
+    lock_none : lock_in n (size_at h) k ≡ None → is_locked (lock_to n (size_at h) k) ≡ false
     lock_none e =
         by_test (is_locked (lock_to n (size_at h) k))
         (λ u.
@@ -88,32 +87,32 @@ module _ (n base : ℕ) (last : Record) (h : List Push) where
         absurd (none_some (sym e ∙ ((lock-found n (size_at h) k).found (offset_of (lock_to n (size_at h) k)) b.period b.falls b.before).0)))
         (λ u. u)
 
-    lock-some : (l : ℕ) → lock_in n (size_at h) k ≡ some l → (misses : ℕ) × (lock_to n (size_at h) k ≡ Locked (place_in n base last h l) misses)
+    lock-some : (l : ℕ) → lock_in n (size_at h) k ≡ Some l → (misses : ℕ) × (lock_to n (size_at h) k ≡ Locked (place_in n base last h l) misses)
     unfolding place_in
     lock-some l e =
         let w = (lock-found n (size_at h) k).found_only l e in
         t.locked (figures n (size_at h) l).place (record { period = l; before = w.0; falls = w.1 })
 
     -- the period that loses
-    ends_as : loses_of (rule_of n (lock_to n (size_at h) k) (figures n (size_at h) k)) ≡ true → (l : ℕ) × (lock_in n (size_at h) k ≡ some l) × (eighth_at n (size_at h) l k ≡ true)
+    ends_as : loses_of (rule_of n (lock_to n (size_at h) k) (figures n (size_at h) k)) ≡ true → (l : ℕ) × (lock_in n (size_at h) k ≡ Some l) × (eighth_at n (size_at h) l k ≡ true)
     ends_as e =
         let w = t.loses_only (loses_true (rule_of n (lock_to n (size_at h) k) (figures n (size_at h) k)) e) in
         (lock-found n (size_at h) k).eighth w.0 w.1
 
-    as-ends : (l : ℕ) → lock_in n (size_at h) k ≡ some l → eighth_at n (size_at h) l k ≡ true → loses_of (rule_of n (lock_to n (size_at h) k) (figures n (size_at h) k)) ≡ true
+    as-ends : (l : ℕ) → lock_in n (size_at h) k ≡ Some l → eighth_at n (size_at h) l k ≡ true → loses_of (rule_of n (lock_to n (size_at h) k) (figures n (size_at h) k)) ≡ true
     unfolding loses_of
     as-ends l e x = ap loses_of (t.loses (figures n (size_at h) l).place ((lock-found n (size_at h) k).eighth_only l e x))
 
   -- ---- by the lock before position c
-  pub by-lock : {X : Type 0} (c : ℕ) → (lock_before n base last h c ≡ none → X) → ((k : ℕ) → lock_before n base last h c ≡ some k → X) → X
+  pub by-lock : {X : Type 0} (c : ℕ) → (lock_before n base last h c ≡ None → X) → ((k : ℕ) → lock_before n base last h c ≡ Some k → X) → X
   unfolding lock_before
   by-lock c p q = by_first (fourth_at n (size_at h)) (c / n) p q
 
-  reads_none : (c : ℕ) → 0 < n → Before c → lock_before n base last h c ≡ none → fold.reads_at n base last h c ≡ false
+  reads_none : (c : ℕ) → 0 < n → Before c → lock_before n base last h c ≡ None → fold.reads_at n base last h c ≡ false
   unfolding lock_before fold.reads_at fold.lock_at
   reads_none c z k e = locked_none (lock_to n (size_at h) (c / n)) (c % n) (lock_none (c / n) (tells-before c z k) e)
 
-  reads-some : (c l : ℕ) → 0 < n → Before c → lock_before n base last h c ≡ some l → fold.reads_at n base last h c ≡ reads_in n base last h l c
+  reads-some : (c l : ℕ) → 0 < n → Before c → lock_before n base last h c ≡ Some l → fold.reads_at n base last h c ≡ reads_in n base last h l c
   unfolding lock_before fold.reads_at fold.lock_at reads_in locked_at
   reads-some c l z k e = ap (λ (x : Lock). locked_at x (c % n)) (lock-some (c / n) (tells-before c z k) l e).1
 
@@ -130,8 +129,8 @@ module _ (n base : ℕ) (last : Record) (h : List Push) where
 
   -- ---- what the readings come to, by the rules
   unfoldable heard_in : Option ℕ → ℕ → Heard
-  heard_in none c = record { stage = stage_to n base last (both_at h) 0; course = course_to n base last (both_at h) 0 }
-  heard_in (some k) c =
+  heard_in None c = record { stage = stage_to n base last (both_at h) 0; course = course_to n base last (both_at h) 0 }
+  heard_in (Some k) c =
       record {
         stage = stage_to n (start_in n base last h k) last (both_in n base last h k) (count_in n base last h k c);
         course = course_to n (start_in n base last h k) last (both_in n base last h k) (count_in n base last h k c);
@@ -141,11 +140,11 @@ module _ (n base : ℕ) (last : Record) (h : List Push) where
   heard_by c = heard_in (lock_before n base last h c) c
 
   -- nothing is read yet
-  heard-zero : (k c : ℕ) → count_in n base last h k c ≡ 0 → heard_in (some k) c ≡ heard_in none c
+  heard-zero : (k c : ℕ) → count_in n base last h k c ≡ 0 → heard_in (Some k) c ≡ heard_in None c
   unfolding heard_in stage_to
   heard-zero k c e = rw (e, course-zero n (start_in n base last h k) last (both_in n base last h k), course-zero n base last (both_at h))
 
-  heard-start : fold.heard_to n base last h 0 ≡ heard_in none 0
+  heard-start : fold.heard_to n base last h 0 ≡ heard_in None 0
   unfolding fold.heard_to heard_in stage_to
   heard-start = rw (course-zero n base last (both_at h))
 
@@ -240,18 +239,18 @@ module _ (n base : ℕ) (last : Record) (h : List Push) where
     kept : Before c
     heard : fold.heard_to n base last h c ≡ heard_by c
 
-  pub lock-falls : (c k : ℕ) → lock_before n base last h c ≡ some k → (k < c / n) × (place_in n base last h k < n)
+  pub lock-falls : (c k : ℕ) → lock_before n base last h c ≡ Some k → (k < c / n) × (place_in n base last h k < n)
   unfolding lock_before place_in
   lock-falls c k e = let w = (lock-found n (size_at h) (c / n)).found_only k e in (w.0, place_in_lem n (size_at h) (figures n (size_at h) k).place k w.1)
 
   abbrev quiet : ℕ → Taken
-  quiet c = record { lost = false; stage = (fold.heard_to n base last h c).stage; course = (fold.heard_to n base last h c).course; first = NoHead; second = NoHead }
+  quiet c = record { lost = false; stage = (fold.heard_to n base last h c).stage; course = (fold.heard_to n base last h c).course; first = None; second = None }
 
   module _ (c : ℕ) (z : 0 < n) (s : Same c) where
-    none-taken : lock_before n base last h c ≡ none → fold.taken_at n base last h c ≡ quiet c
+    none-taken : lock_before n base last h c ≡ None → fold.taken_at n base last h c ≡ quiet c
     none-taken e = taken-other n base last h c (reads_none c z s.kept e)
 
-    module _ (k : ℕ) (e : lock_before n base last h c ≡ some k) where
+    module _ (k : ℕ) (e : lock_before n base last h c ≡ Some k) where
       other-taken : reads_in n base last h k c ≡ false → fold.taken_at n base last h c ≡ quiet c
       other-taken r = taken-other n base last h c (reads-some c k z s.kept e ∙ r)
 
@@ -292,11 +291,11 @@ module _ (n base : ℕ) (last : Record) (h : List Push) where
       unfolding rule.heads_at heads_in choice.when◌then◌else◌
       heads-other r = rw (e, r)
 
-    markers-none : lock_before n base last h c ≡ none → rule.markers_lose_at n base last h c ≡ false
+    markers-none : lock_before n base last h c ≡ None → rule.markers_lose_at n base last h c ≡ false
     unfolding rule.markers_lose_at markers_in
     markers-none e = rw e
 
-    heads-none : lock_before n base last h c ≡ none → rule.heads_at n base last h c ≡ no_events
+    heads-none : lock_before n base last h c ≡ None → rule.heads_at n base last h c ≡ no_events
     unfolding rule.heads_at heads_in
     heads-none e = rw e
 
@@ -314,7 +313,7 @@ module _ (n base : ℕ) (last : Record) (h : List Push) where
     unfolding heads_of event_of no_events
     quiet-heads = refl
 
-    read-heads : (k : Taken) (f g : Headed) → k.first ≡ f → k.second ≡ g → heads_of k ≡ record { first = event_of f; second = event_of g; third = Nothing }
+    read-heads : (k : Taken) (f g : Option Head) → k.first ≡ f → k.second ≡ g → heads_of k ≡ record { first = event_of f; second = event_of g; third = Nothing }
     unfolding heads_of
     read-heads k f g u v = rw (u, v)
 
@@ -329,7 +328,7 @@ module _ (n base : ℕ) (last : Record) (h : List Push) where
         (λ r. ap heads_of (other-taken k e r) ∙ quiet-heads ∙ sym (heads-other k e r)))
 
     -- ---- one position more
-    lock-stays : (k : ℕ) → lock_before n base last h c ≡ some k → lock_before n base last h (suc c) ≡ some k
+    lock-stays : (k : ℕ) → lock_before n base last h c ≡ Some k → lock_before n base last h (suc c) ≡ Some k
     unfolding lock_before
     lock-stays k e =
         by_test (eqb (c % n) (n - 1))
@@ -339,12 +338,12 @@ module _ (n base : ℕ) (last : Record) (h : List Push) where
     next-is : {t t' : Stage} {x x' : Course} → t ≡ t' → x ≡ x' → ◌≡◌ {A = Heard} (record { stage = t; course = x }) (record { stage = t'; course = x' })
     next-is u v = rw (u, v)
 
-    heard-at : (k j : ℕ) → lock_before n base last h (suc c) ≡ some k → count_in n base last h k (suc c) ≡ j →
+    heard-at : (k j : ℕ) → lock_before n base last h (suc c) ≡ Some k → count_in n base last h k (suc c) ≡ j →
         record { stage = stage_to n (start_in n base last h k) last (both_in n base last h k) j; course = course_to n (start_in n base last h k) last (both_in n base last h k) j } ≡ heard_by (suc c)
     unfolding heard_in
     heard-at k j e g = rw (e, g)
 
-    next-some : (k : ℕ) → lock_before n base last h c ≡ some k → rule.markers_lose_at n base last h c ≡ false → fold.heard_to n base last h (suc c) ≡ heard_by (suc c)
+    next-some : (k : ℕ) → lock_before n base last h c ≡ Some k → rule.markers_lose_at n base last h c ≡ false → fold.heard_to n base last h (suc c) ≡ heard_by (suc c)
     next-some k e m =
         let f = lock-falls c k e in
         by_test (reads_in n base last h k c)
@@ -358,7 +357,7 @@ module _ (n base : ℕ) (last : Record) (h : List Push) where
         ∙ heard-at k (i k e) (lock-stays k e) (count-other k c z f.0 f.1 r))
 
     -- a lock that falls with this very period has no reading yet
-    new-lock : (k : ℕ) → lock_before n base last h c ≡ none → lock_before n base last h (suc c) ≡ some k → count_in n base last h k (suc c) ≡ 0
+    new-lock : (k : ℕ) → lock_before n base last h c ≡ None → lock_before n base last h (suc c) ≡ Some k → count_in n base last h k (suc c) ≡ 0
     unfolding lock_before
     new-lock k e g =
         let w = first-is (fourth_at n (size_at h)) (suc c / n) k g in
@@ -371,14 +370,14 @@ module _ (n base : ℕ) (last : Record) (h : List Push) where
         (λ u. omega (arith, a, d.0, w.0, ltb-false k (c / n) u)))
         (λ t. absurd (none_some (sym e ∙ sym (rw (next_in_lem n c z (omega (arith, eqb-false (c % n) (n - 1) t, place-less n c z))).0) ∙ g)))
 
-    heard-none : lock_before n base last h c ≡ none → fold.heard_to n base last h c ≡ heard_in none c
+    heard-none : lock_before n base last h c ≡ None → fold.heard_to n base last h c ≡ heard_in None c
     heard-none e = s.heard ∙ ap (λ (o : Option ℕ). heard_in o c) e
 
-    none-anywhere : heard_in none c ≡ heard_in none (suc c)
+    none-anywhere : heard_in None c ≡ heard_in None (suc c)
     unfolding heard_in
     none-anywhere = refl
 
-    next-none : lock_before n base last h c ≡ none → fold.heard_to n base last h (suc c) ≡ heard_by (suc c)
+    next-none : lock_before n base last h c ≡ None → fold.heard_to n base last h (suc c) ≡ heard_by (suc c)
     next-none e =
         heard-next n base last h c
         ∙ ap (λ (x : Taken). record { stage = x.stage; course = x.course }) (none-taken e)
@@ -415,7 +414,7 @@ module _ (n base : ℕ) (last : Record) (h : List Push) where
     same_next : rule.loses_at n base last h c ≡ false → Same (suc c)
     same_next e = record { kept = λ j l. by_test (eqb j c) (λ t. rw (eqb-true j c t) (loses_is ∙ e)) (λ t. s.kept j (omega (arith, l, eqb-false j c t))); heard = next-heard (markers_kept e) }
 
-  first-lock : heard_in none 0 ≡ heard_by 0
+  first-lock : heard_in None 0 ≡ heard_by 0
   unfolding lock_before first_to
   first-lock = rw (zero-div n)
 
@@ -426,8 +425,8 @@ module _ (n base : ℕ) (last : Record) (h : List Push) where
   -- ---- the frame record
   heard-last : (o : Option ℕ) (c : ℕ) → (heard_in o c).course.last ≡ record_in n base last h o c
   unfolding heard_in record_in
-  heard-last none c = ap (λ (x : Course). x.last) (course-zero n base last (both_at h))
-  heard-last (some k) c = course-last n (start_in n base last h k) last (both_in n base last h k) (count_in n base last h k c)
+  heard-last None c = ap (λ (x : Course). x.last) (course-zero n base last (both_at h))
+  heard-last (Some k) c = course-last n (start_in n base last h k) last (both_in n base last h k) (count_in n base last h k c)
 
   record-before : (c : ℕ) → Same c → (fold.heard_to n base last h c).course.last ≡ rule.record_before n base last h c
   unfolding rule.record_before
@@ -453,22 +452,22 @@ module _ (n base : ℕ) (last : Record) (h : List Push) where
       (λ t. sym (ap (λ (g : Heard). g.course.last) (heard-next n base last h c)) ∙ ap (λ (g : Heard). g.course.last) (next-heard c z s t) ∙ heard-last (lock_before n base last h (suc c)) (suc c) ∙ sym (if_no m x y t))
 
   -- ---- the period's end
-  offset-none : (k : Lock) → is_locked k ≡ false → offset_of k ≡ 0
-  unfolding is_locked offset_of
+  offset-none : (k : Lock) → is_locked k ≡ false → locked_offset k ≡ None
+  unfolding is_locked locked_offset
   offset-none (Search cand count) e = refl
   offset-none (Locked offset misses) e = absurd (never e)
 
-  parity-is : (start : ℕ) (b : ℕ → Both) (i : ℕ) → parity_of (stage_to n start last b i) ≡ (when ltb i 2 then 0 else parity b)
-  unfolding stage_to parity_of parity
-  parity-is start b zero = sym (if_yes (ltb 0 2) 0 (parity b) (lt-ltb 0 2 (omega arith)))
-  parity-is start b (suc zero) = sym (if_yes (ltb 1 2) 0 (parity b) (lt-ltb 1 2 (omega arith)))
-  parity-is start b (suc (suc i)) = sym (if_no (ltb (suc (suc i)) 2) 0 (parity b) (le-ltb (suc (suc i)) 2 (omega arith)))
+  odd-is : (start : ℕ) (b : ℕ → Both) (i : ℕ) → odd_of (stage_to n start last b i) ≡ (when ltb i 2 then false else ssync_odd b)
+  unfolding stage_to odd_of
+  odd-is start b zero = sym (if_yes (ltb 0 2) false (ssync_odd b) (lt-ltb 0 2 (omega arith)))
+  odd-is start b (suc zero) = sym (if_yes (ltb 1 2) false (ssync_odd b) (lt-ltb 1 2 (omega arith)))
+  odd-is start b (suc (suc i)) = sym (if_no (ltb (suc (suc i)) 2) false (ssync_odd b) (le-ltb (suc (suc i)) 2 (omega arith)))
 
-  stats-eq : (y : Tally) {lk lk' : Bool} {o o' q q' a a' d d' : ℕ} → lk ≡ lk' → o ≡ o' → q ≡ q' → a ≡ a' → d ≡ d' →
+  stats-eq : (y : Tally) {o o' : Option ℕ} {q q' : Bool} {a a' d d' : ℕ} → o ≡ o' → q ≡ q' → a ≡ a' → d ≡ d' →
       ◌≡◌ {A = SyncStats}
-      (record { peak = y.peak; peak_pos = y.place; sum = y.sum; locked = lk; offset = o; ssync_parity = q; stray_markers = a; missed_markers = d })
-      (record { peak = y.peak; peak_pos = y.place; sum = y.sum; locked = lk'; offset = o'; ssync_parity = q'; stray_markers = a'; missed_markers = d' })
-  stats-eq y u v w x t = rw (u, v, w, x, t)
+      (record { peak = y.peak; peak_pos = y.place; sum = y.sum; offset = o; ssync_odd = q; stray_markers = a; missed_markers = d })
+      (record { peak = y.peak; peak_pos = y.place; sum = y.sum; offset = o'; ssync_odd = q'; stray_markers = a'; missed_markers = d' })
+  stats-eq y v w x t = rw (v, w, x, t)
 
   module _ (c : ℕ) (z : 0 < n) (s : Same (suc c)) (e : fold.ends_at n base last h c ≡ true) where
     ended : suc c / n ≡ suc (c / n)
@@ -485,40 +484,40 @@ module _ (n base : ℕ) (last : Record) (h : List Push) where
     unfolding lock_before
     lock-end o g = sym (ap (lock_in n (size_at h)) ended) ∙ g
 
-    none-parity : parity_of (heard_in none (suc c)).stage ≡ 0
-    unfolding heard_in stage_to parity_of
-    none-parity = refl
+    none-odd : odd_of (heard_in None (suc c)).stage ≡ false
+    unfolding heard_in stage_to odd_of
+    none-odd = refl
 
-    none-stray : (heard_in none (suc c)).course.stray ≡ 0
+    none-stray : (heard_in None (suc c)).course.stray ≡ 0
     unfolding heard_in
     none-stray = ap (λ (x : Course). x.stray) (course-zero n base last (both_at h))
 
-    none-missed : (heard_in none (suc c)).course.missed ≡ 0
+    none-missed : (heard_in None (suc c)).course.missed ≡ 0
     unfolding heard_in
     none-missed = ap (λ (x : Course). x.missed) (course-zero n base last (both_at h))
 
-    stats-none : lock_before n base last h (suc c) ≡ none → fold.stats_at n base last h c ≡ rule.stats_at n base last h c
+    stats-none : lock_before n base last h (suc c) ≡ None → fold.stats_at n base last h c ≡ rule.stats_at n base last h c
     unfolding fold.stats_at rule.stats_at stats_in
     stats-none g =
-        let w = taken_next none g in
-        let u = lock_none (suc (c / n)) tells-end (lock-end none g) in
+        let w = taken_next None g in
+        let u = lock_none (suc (c / n)) tells-end (lock-end None g) in
         rw g
-        (stats-eq (figures n (size_at h) (c / n)) u (offset-none (lock_to n (size_at h) (suc (c / n))) u)
-        (ap (λ (x : Heard). parity_of x.stage) w ∙ none-parity)
+        (stats-eq (figures n (size_at h) (c / n)) (offset-none (lock_to n (size_at h) (suc (c / n))) u)
+        (ap (λ (x : Heard). odd_of x.stage) w ∙ none-odd)
         (ap (λ (x : Heard). x.course.stray) w ∙ none-stray)
         (ap (λ (x : Heard). x.course.missed) w ∙ none-missed))
 
-    stats-some : (k : ℕ) → lock_before n base last h (suc c) ≡ some k → fold.stats_at n base last h c ≡ rule.stats_at n base last h c
-    unfolding fold.stats_at rule.stats_at stats_in heard_in is_locked offset_of
+    stats-some : (k : ℕ) → lock_before n base last h (suc c) ≡ Some k → fold.stats_at n base last h c ≡ rule.stats_at n base last h c
+    unfolding fold.stats_at rule.stats_at stats_in heard_in locked_offset
     stats-some k g =
-        let w = taken_next (some k) g in
-        let u = lock-some (suc (c / n)) tells-end k (lock-end (some k) g) in
+        let w = taken_next (Some k) g in
+        let u = lock-some (suc (c / n)) tells-end k (lock-end (Some k) g) in
         let b = both_in n base last h k in
         let start = start_in n base last h k in
         let i = count_in n base last h k (suc c) in
         rw g
-        (stats-eq (figures n (size_at h) (c / n)) (ap is_locked u.1) (ap offset_of u.1)
-        (ap (λ (x : Heard). parity_of x.stage) w ∙ parity-is start b i)
+        (stats-eq (figures n (size_at h) (c / n)) (ap locked_offset u.1)
+        (ap (λ (x : Heard). odd_of x.stage) w ∙ odd-is start b i)
         (ap (λ (x : Heard). x.course.stray) w ∙ course-stray n start last b i)
         (ap (λ (x : Heard). x.course.missed) w ∙ course-missed n start last b i))
 
@@ -526,8 +525,8 @@ module _ (n base : ℕ) (last : Record) (h : List Push) where
     stats-is = by-lock (suc c) stats-none stats-some
 
   -- ---- what is told
-  zeros-is : (at : ℕ) (r : Record) → stats_of (started_of at r) ≡ zeros
-  unfolding stats_of started_of zeros no_tally is_locked offset_of parity_of
+  zeros-is : (at : ℕ) (r : Option FrameHead) → stats_of (started_of at r) ≡ zeros
+  unfolding stats_of started_of zeros no_tally locked_offset odd_of
   zeros-is at r = refl
 
   none_lost : (c : ℕ) → rule.markers_lose_at n base last h c ≡ false → rule.eighth_ends n base last h c ≡ false → rule.loses_at n base last h c ≡ false
@@ -558,7 +557,7 @@ module _ (n base : ℕ) (last : Record) (h : List Push) where
       (λ u. refl)))
 
 -- ---- for as long as no position before has lost, by the rules
-pub record Ruled (n base : ℕ) (last : Record) (h : List Push) (c : ℕ) : Type 0 where
+pub record Ruled (n base : ℕ) (last : Option FrameHead) (h : List Push) (c : ℕ) : Type 0 where
   pub kept : (i : ℕ) → i < c → fold.loses_at n base last h i ≡ false
   pub lost : (fold.taken_at n base last h c).lost ≡ rule.markers_lose_at n base last h c
   pub eighth : fold.period_loses n base last h c ≡ rule.eighth_ends n base last h c
@@ -567,7 +566,7 @@ pub record Ruled (n base : ℕ) (last : Record) (h : List Push) (c : ℕ) : Type
   pub before : (fold.heard_to n base last h c).course.last ≡ rule.record_before n base last h c
   pub record_is : fold.record_at n base last h c ≡ rule.record_at n base last h c
 
-pub ruled : (n base : ℕ) (last : Record) (h : List Push) (c : ℕ) → 0 < n → ((i : ℕ) → i < c → rule.loses_at n base last h i ≡ false) → Ruled n base last h c
+pub ruled : (n base : ℕ) (last : Option FrameHead) (h : List Push) (c : ℕ) → 0 < n → ((i : ℕ) → i < c → rule.loses_at n base last h i ≡ false) → Ruled n base last h c
 ruled n base last h c z k =
     let s = same n base last h c z k in
     record {

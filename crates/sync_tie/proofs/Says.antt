@@ -1,12 +1,12 @@
 -- What the rules of specs/Stretch say of a push's events: heads first, and none beside a loss by markers. Assumes nothing.
+use Rattle.sync_heads.specs.declared.FrameHead.{FrameHead}
+use Rattle.std.specs.Prelude.{Option, None}
+use Rattle.sync_heads.specs.declared.Head.{Head}
 use Prim.Native.Nat.{◌-◌, ◌/◌, ◌<◌, ◌≤◌, suc, zero, ℕ}
 use Rattle.laws.proofs.Tests.{and_both, by_test, never}
 use Rattle.laws.specs.Choice as choice
 use Rattle.laws.specs.Choice.{if_no, if_yes}
 use Rattle.sync_corr.specs.declared.Both.{Both}
-use Rattle.sync_heads.specs.declared.Headed.TheVariants.{Nothing as NoHead}
-use Rattle.sync_heads.specs.declared.Headed.{Headed}
-use Rattle.sync_heads.specs.declared.Record.{Record}
 use Rattle.sync_history.proofs.Firsts.{by_first}
 use Rattle.sync_history.proofs.Found.{lock-found}
 use Rattle.sync_history.proofs.Read.{none-one}
@@ -23,22 +23,22 @@ use mathlib.Core.Bool.{true}
 use mathlib.Core.List.{List}
 use mathlib.Core.Path.{◌∙◌, ◌≡◌, ap, refl, sym}
 
-alone : (n start : ℕ) (last : Record) (b : ℕ → Both) (i : ℕ) → markers_lose b i ≡ true → second_told n start last b i ≡ NoHead
+alone : (n start : ℕ) (last : Option FrameHead) (b : ℕ → Both) (i : ℕ) → markers_lose b i ≡ true → second_told n start last b i ≡ None
 unfolding second_told
 alone n start last b zero m = refl
 alone n start last b (suc zero) m = absurd (never (sym m ∙ none-one n start last b))
 alone n start last b (suc (suc i)) m = refl
 
-module _ (n base : ℕ) (last : Record) (h : List Push) where
+module _ (n base : ℕ) (last : Option FrameHead) (h : List Push) where
   -- the heads that position c tells: two at most
   abbrev Two : ℕ → Type 0
-  Two c = (a : Headed) × (b : Headed) × (heads_at n base last h c ≡ record { first = event_of a; second = event_of b; third = Nothing })
+  Two c = (a : Option Head) × (b : Option Head) × (heads_at n base last h c ≡ record { first = event_of a; second = event_of b; third = Nothing })
 
   pub heads-two : (c : ℕ) → Two c
   unfolding heads_at heads_in no_events event_of choice.when◌then◌else◌
   heads-two c =
       by-lock n base last h c
-      (λ e. (NoHead, NoHead, rw e refl))
+      (λ e. (None, None, rw e refl))
       (λ k e.
       by_test (reads_in n base last h k c)
       (λ r.
@@ -46,7 +46,7 @@ module _ (n base : ℕ) (last : Record) (h : List Push) where
       let b = both_in n base last h k in
       let start = start_in n base last h k in
       (first_told n start last b i, second_told n start last b i, rw (e, r) refl))
-      (λ r. (NoHead, NoHead, rw (e, r) refl)))
+      (λ r. (None, None, rw (e, r) refl)))
 
   -- a loss by markers leaves the second place free
   pub lost-alone : (c : ℕ) → markers_lose_at n base last h c ≡ true → (heads_at n base last h c).second ≡ Nothing

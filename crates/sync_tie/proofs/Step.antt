@@ -1,8 +1,9 @@
 -- What the step makes of a sync that stands as the pushes say: its events, and the sync after it. Assumes nothing.
+use Rattle.std.specs.Prelude.{Option}
+use Rattle.sync_heads.specs.declared.FrameHead.{FrameHead}
 use Prim.Native.Nat.{◌%◌, ◌+◌, ◌-◌, ◌/◌, ◌<◌, suc, ℕ}
 use Rattle.laws.proofs.Tests.{by_test, if_ap, never}
 use Rattle.laws.specs.Choice.{if_no, if_yes, when◌then◌else◌}
-use Rattle.sync_heads.specs.declared.Record.{Record}
 use Rattle.sync_history.specs.Claims.{lock_to}
 use Rattle.sync_history.specs.History.{figures, figures_to}
 use Rattle.sync_lock.specs.Period.{counted_of, no_tally}
@@ -24,7 +25,7 @@ use mathlib.Core.List.{List}
 use mathlib.Core.Path.{◌∙◌, ◌≡◌, ap, sym}
 use native.Mathlib.Omega.{arith}
 
-module _ (n base : ℕ) (last : Record) (h : List Push) where
+module _ (n base : ℕ) (last : Option FrameHead) (h : List Push) where
   -- the four ends of a step
   abbrev heads : ℕ → Events
   heads c = heads_of (taken_at n base last h c)

@@ -1,5 +1,7 @@
 -- A stretch of pushes folded by the step's own rules: what stands between the step and the rules of specs/Stretch. Follow proves that the sync tells it,
 -- Ruled that it is what Stretch says. Assumes nothing.
+use Rattle.sync_heads.specs.declared.FrameHead.{FrameHead}
+use Rattle.std.specs.Prelude.{None, Option}
 use Prim.Native.Nat.{ℕ, zero, suc, ◌+◌, ◌-◌, ◌/◌, ◌%◌, ◌<◌}
 use mathlib.Core.Bool.{Bool, true, false}
 use mathlib.Core.List.{List}
@@ -9,20 +11,17 @@ use lib.IntN.{pos}
 use Rattle.laws.specs.Choice.{when◌then◌else◌}
 use Rattle.sync_lock.specs.declared.Lock.{Lock}
 use Rattle.sync_lock.specs.Rule.{rule_of, locked_at}
-use Rattle.sync_heads.specs.declared.Record.{Record}
-use Rattle.sync_heads.specs.declared.Slot.TheVariants.{Unknown}
 use Rattle.sync_heads.specs.declared.Stage.{Stage}
 use Rattle.sync_heads.specs.declared.Stage.TheVariants.{Before}
 use Rattle.sync_heads.specs.declared.Course.{Course}
 use Rattle.sync_heads.specs.declared.Reading.{Reading}
 use Rattle.sync_heads.specs.declared.Taken.{Taken}
-use Rattle.sync_heads.specs.declared.Headed.TheVariants.{Nothing as NoHead}
 use Rattle.sync_heads.specs.Heads.{read_of}
 use Rattle.sync_step.specs.declared.SyncStats.{SyncStats}
 use Rattle.sync_step.specs.declared.Event.TheVariants.{Period, Lost}
 use Rattle.sync_step.specs.declared.Events.{Events}
 use Rattle.sync_step.specs.Events.{no_events, heads_of, then_of}
-use Rattle.sync_step.specs.Step.{started_of, stats_of, parity_of, is_locked, offset_of, loses_of}
+use Rattle.sync_step.specs.Step.{started_of, stats_of, odd_of, locked_offset, is_locked, offset_of, loses_of}
 use Rattle.sync_history.specs.History.{figures}
 use Rattle.sync_history.specs.Claims.{lock_to}
 use Rattle.sync_tie.specs.Pushes.{Push, both_at, size_at}
@@ -32,7 +31,7 @@ pub record Heard : Type 0 where
   pub stage : Stage
   pub course : Course
 
-module _ (n base : ℕ) (last : Record) (h : List Push) where
+module _ (n base : ℕ) (last : Option FrameHead) (h : List Push) where
   -- the lock while position c is completed: that of the whole periods before
   unfoldable pub lock_at : ℕ → Lock
   lock_at c = lock_to n (size_at h) (c / n)
@@ -46,7 +45,7 @@ module _ (n base : ℕ) (last : Record) (h : List Push) where
 
   -- the fold over the readings among the first c positions: words, majority, marks and numbers, by the rules of sync_heads
   unfoldable pub heard_to : ℕ → Heard
-  heard_to zero = record { stage = Before; course = record { majority = pos 0; slot = Unknown; last = last; misses = 0; stray = 0; missed = 0 } }
+  heard_to zero = record { stage = Before; course = record { majority = pos 0; slot = None; last = last; misses = 0; stray = 0; missed = 0 } }
   heard_to (suc c) =
       let e = heard_to c in
       let k = read_of n e.stage e.course (reading_at c) in
@@ -58,7 +57,7 @@ module _ (n base : ℕ) (last : Record) (h : List Push) where
       let e = heard_to c in
       when reads_at c
       then read_of n e.stage e.course (reading_at c)
-      else record { lost = false; stage = e.stage; course = e.course; first = NoHead; second = NoHead }
+      else record { lost = false; stage = e.stage; course = e.course; first = None; second = None }
 
   -- position c is its period's last
   unfoldable pub ends_at : ℕ → Bool
@@ -82,9 +81,8 @@ module _ (n base : ℕ) (last : Record) (h : List Push) where
         peak = y.peak;
         peak_pos = y.place;
         sum = y.sum;
-        locked = is_locked k;
-        offset = offset_of k;
-        ssync_parity = parity_of e.stage;
+        offset = locked_offset k;
+        ssync_odd = odd_of e.stage;
         stray_markers = e.course.stray;
         missed_markers = e.course.missed;
       }
@@ -107,9 +105,9 @@ module _ (n base : ℕ) (last : Record) (h : List Push) where
   tells m = when ltb m 23 then no_events else told_at (m - 23)
 
   -- the frame record when position c has lost
-  unfoldable pub record_at : ℕ → Record
+  unfoldable pub record_at : ℕ → Option FrameHead
   record_at c = (taken_at c).course.last
 
 -- no position of the first m pushes has lost
-abbrev pub Kept : ℕ → ℕ → Record → List Push → ℕ → Type 0
+abbrev pub Kept : ℕ → ℕ → Option FrameHead → List Push → ℕ → Type 0
 Kept n base last h m = (c : ℕ) → c + 23 < m → loses_at n base last h c ≡ false

@@ -1,8 +1,9 @@
 -- The claims of specs/Tie.antt. Assumes nothing.
+use Rattle.std.specs.Prelude.{Option}
+use Rattle.sync_heads.specs.declared.FrameHead.{FrameHead}
 use Prim.Native.Nat.{◌+◌, ◌-◌, ◌<◌, ◌≤◌, suc, zero, ℕ}
 use Rattle.laws.proofs.Tests.{by_test}
 use Rattle.laws.specs.Choice.{when◌then◌else◌}
-use Rattle.sync_heads.specs.declared.Record.{Record}
 use Rattle.sync_step.specs.Events.{no_events}
 use Rattle.sync_step.specs.declared.Events.{Events}
 use Rattle.sync_step.specs.declared.Run.{Run}
@@ -23,7 +24,7 @@ use native.Mathlib.Omega.{arith}
 -- for every list of pushes: it may be cut anywhere
 pub use Rattle.sync_tie.proofs.Told.{cut}
 
-module _ (n base : ℕ) (last : Record) (h : List Push) where
+module _ (n base : ℕ) (last : Option FrameHead) (h : List Push) where
   -- ---- none has lost, by the rules and by the fold
   pub kept-fold : (m : ℕ) → 0 < n → Kept n base last h m → fold.Kept n base last h m
   kept-fold m z k c d = (ruled n base last h c z (λ i l. k i (omega arith))).loses ∙ k c d

@@ -1,9 +1,10 @@
 -- What a sync tells is what the fold of its pushes tells, and a list of pushes may be cut anywhere. Assumes nothing.
+use Rattle.std.specs.Prelude.{Option}
+use Rattle.sync_heads.specs.declared.FrameHead.{FrameHead}
 use Prim.Native.Nat.{◌+◌, ◌-◌, ◌<◌, ◌≤◌, suc, zero, ℕ}
 use Rattle.laws.proofs.Tests.{by_test}
 use Rattle.laws.specs.Choice.{if_no, if_yes}
 use Rattle.sync.specs.Sync.{kept_window, started_sync, stored_of}
-use Rattle.sync_heads.specs.declared.Record.{Record}
 use Rattle.sync_step.specs.Events.{no_corr, no_events}
 use Rattle.sync_step.specs.Step.{early_of, started_of}
 use Rattle.sync_step.specs.declared.Step.{Step}
@@ -25,7 +26,7 @@ use mathlib.Core.Path.{◌∙◌, ◌≡◌, ap, refl, subst, sym}
 use native.Mathlib.Nat.{add-zero}
 use native.Mathlib.Omega.{arith}
 
-module _ (n base : ℕ) (last : Record) (h : List Push) where
+module _ (n base : ℕ) (last : Option FrameHead) (h : List Push) where
   abbrev after : ℕ → Held
   after m = pushes n (begun n base last) h m
 

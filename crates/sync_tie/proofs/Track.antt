@@ -1,6 +1,7 @@
 -- A sync that has taken m pushes without a loss, c of them completing a position, stands as the pushes say. Assumes nothing.
+use Rattle.sync_heads.specs.declared.FrameHead.{FrameHead}
+use Rattle.std.specs.Prelude.{None, Option}
 use Rattle.laws.specs.Choice as choice
-use Rattle.sync_heads.specs.declared.Headed.TheVariants.{Nothing as NoHead}
 use Prim.Native.Nat.{◌%◌, ◌+◌, ◌-◌, ◌/◌, ◌<◌, suc, ℕ}
 use Rattle.laws.proofs.Tests.{by_test}
 use Rattle.laws.specs.Choice.{if_no, if_yes, when◌then◌else◌}
@@ -8,7 +9,6 @@ use Rattle.sync.specs.Sync.{symbol_of, window_after}
 use Rattle.sync_corr.specs.Correlate.{both_of, size_of}
 use Rattle.sync_corr.specs.declared.Both.{Both}
 use Rattle.sync_heads.specs.Heads.{read_of}
-use Rattle.sync_heads.specs.declared.Record.{Record}
 use Rattle.sync_heads.specs.declared.Taken.{Taken}
 use Rattle.sync_history.specs.History.{acc_after, figures_to}
 use Rattle.sync_lock.specs.Period.{added_of, counted_of, leak_of, no_tally}
@@ -36,8 +36,8 @@ use native.Mathlib.Omega.{arith}
 heard_go : (t : Bool) (k : Taken) (e : Heard) →
     (when t then record { stage = k.stage; course = k.course } else e)
     ≡ record {
-      stage = (when t then k else record { lost = false; stage = e.stage; course = e.course; first = NoHead; second = NoHead }).stage;
-      course = (when t then k else record { lost = false; stage = e.stage; course = e.course; first = NoHead; second = NoHead }).course;
+      stage = (when t then k else record { lost = false; stage = e.stage; course = e.course; first = None; second = None }).stage;
+      course = (when t then k else record { lost = false; stage = e.stage; course = e.course; first = None; second = None }).course;
     }
 unfolding choice.when◌then◌else◌
 heard_go true k e = refl
@@ -46,7 +46,7 @@ heard_go false k e = refl
 late_eq : (n : ℕ) {r r' : Run} {b b' : Both} {a a' : ℕ} → r ≡ r' → b ≡ b' → a ≡ a' → late_of n r b a ≡ late_of n r' b' a'
 late_eq n p q s = rw (p, q, s)
 
-module _ (n base : ℕ) (last : Record) (h : List Push) where
+module _ (n base : ℕ) (last : Option FrameHead) (h : List Push) where
   -- the accumulators: of those places that the running period has passed, one period more
   unfoldable pub periods_at : ℕ → ℕ → ℕ
   periods_at c i = when ltb i (c % n) then suc (c / n) else c / n

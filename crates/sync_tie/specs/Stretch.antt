@@ -1,16 +1,15 @@
 -- What a stretch of pushes comes to, by the rules of sync_history: it begins at a position, with the frame record kept from before, and its accumulators at
 -- zero. n is the period. No state stands here: lock, readings, heads, periods, losses and records are functions of the pushes.
-use Rattle.std.specs.Prelude.{ℕ, suc, ◌+◌, ◌-◌, ◌*◌, ◌/◌, ◌%◌, Bool, true, false, ◌&&◌, ◌||◌, List, ◌≡◌, eqb, ltb}
-use Rattle.std.proofs.Math.Option.{Option, none, some}
+use Rattle.sync_heads.specs.declared.FrameHead.{FrameHead}
+use Rattle.std.specs.Prelude.{ℕ, suc, ◌+◌, ◌-◌, ◌*◌, ◌/◌, ◌%◌, Bool, true, false, ◌&&◌, ◌||◌, List, ◌≡◌, eqb, ltb, Option, None, Some}
 use Rattle.laws.specs.Choice.{when◌then◌else◌}
 use Rattle.sync_corr.specs.declared.Both.{Both}
-use Rattle.sync_heads.specs.declared.Record.{Record}
 use Rattle.sync_step.specs.declared.SyncStats.{SyncStats}
 use Rattle.sync_step.specs.declared.Event.TheVariants.{Nothing, Period, Lost}
 use Rattle.sync_step.specs.declared.Events.{Events}
 use Rattle.sync_step.specs.Events.{no_events, event_of, then_of}
 use Rattle.sync_history.specs.History.{LockIn, figures, lock_in, eighth_at}
-use Rattle.sync_history.specs.Heads.{MarkerLoss, capped, parity, markers_lose, strays_to, misses_to, record_to, first_told, second_told}
+use Rattle.sync_history.specs.Heads.{MarkerLoss, capped, ssync_odd, markers_lose, strays_to, misses_to, record_to, first_told, second_told}
 use Rattle.sync_tie.specs.Pushes.{Push, both_at, size_at}
 
 -- the loss by markers: a lock fell with a period at a place, position c is a reading of that place, and its head is the second in a row without its mark
@@ -24,9 +23,9 @@ pub record LostByMarkers (n : ℕ) (h : List Push) (c : ℕ) : Type 0 where
 
 -- "Offset 9,295 and a marker loss: `lost`, then a `period` of zeros."
 unfoldable pub zeros : SyncStats
-zeros = record { peak = 0; peak_pos = 0; sum = 0; locked = false; offset = 0; ssync_parity = 0; stray_markers = 0; missed_markers = 0 }
+zeros = record { peak = 0; peak_pos = 0; sum = 0; offset = None; ssync_odd = false; stray_markers = 0; missed_markers = 0 }
 
-module _ (n base : ℕ) (last : Record) (h : List Push) where
+module _ (n base : ℕ) (last : Option FrameHead) (h : List Push) where
   -- ---- the lock while position c is completed: it has fallen with a whole period before, at that period's peak
   unfoldable pub lock_before : ℕ → Option ℕ
   lock_before c = lock_in n (size_at h) (c / n)
@@ -54,13 +53,13 @@ module _ (n base : ℕ) (last : Record) (h : List Push) where
   -- ---- what position c comes to with the lock that has fallen, if one has
   -- a reading whose head is the second in a row without its mark
   unfoldable pub markers_in : Option ℕ → ℕ → Bool
-  markers_in none c = false
-  markers_in (some k) c = reads_in k c && markers_lose (both_in k) (count_in k c)
+  markers_in None c = false
+  markers_in (Some k) c = reads_in k c && markers_lose (both_in k) (count_in k c)
 
   -- the heads that a reading tells
   unfoldable pub heads_in : Option ℕ → ℕ → Events
-  heads_in none c = no_events
-  heads_in (some k) c =
+  heads_in None c = no_events
+  heads_in (Some k) c =
       let i = count_in k c in
       when reads_in k c
       then record { first = event_of (first_told n (start_in k) last (both_in k) i); second = event_of (second_told n (start_in k) last (both_in k) i); third = Nothing }
@@ -68,29 +67,28 @@ module _ (n base : ℕ) (last : Record) (h : List Push) where
 
   -- its period is an eighth other one in a row
   unfoldable pub eighth_in : Option ℕ → ℕ → Bool
-  eighth_in none c = false
-  eighth_in (some k) c = eighth_at n (size_at h) k (c / n)
+  eighth_in None c = false
+  eighth_in (Some k) c = eighth_at n (size_at h) k (c / n)
 
   -- the frame record of the readings among the first c positions
-  unfoldable pub record_in : Option ℕ → ℕ → Record
-  record_in none c = last
-  record_in (some k) c = record_to n (start_in k) last (both_in k) (count_in k c)
+  unfoldable pub record_in : Option ℕ → ℕ → Option FrameHead
+  record_in None c = last
+  record_in (Some k) c = record_to n (start_in k) last (both_in k) (count_in k c)
 
   -- the statistics of the period that ends with position c: figures, lock, and of the readings so far the parity, known from the second on, and the counters
   unfoldable pub stats_in : Option ℕ → ℕ → SyncStats
-  stats_in none c =
+  stats_in None c =
       let y = figures n (size_at h) (c / n) in
-      record { peak = y.peak; peak_pos = y.place; sum = y.sum; locked = false; offset = 0; ssync_parity = 0; stray_markers = 0; missed_markers = 0 }
-  stats_in (some k) c =
+      record { peak = y.peak; peak_pos = y.place; sum = y.sum; offset = None; ssync_odd = false; stray_markers = 0; missed_markers = 0 }
+  stats_in (Some k) c =
       let y = figures n (size_at h) (c / n) in
       let i = count_in k (suc c) in
       record {
         peak = y.peak;
         peak_pos = y.place;
         sum = y.sum;
-        locked = true;
-        offset = place_in k;
-        ssync_parity = (when ltb i 2 then 0 else parity (both_in k));
+        offset = Some (place_in k);
+        ssync_odd = (when ltb i 2 then false else ssync_odd (both_in k));
         stray_markers = capped (strays_to (both_in k) i);
         missed_markers = capped (misses_to (both_in k) i);
       }
@@ -111,10 +109,10 @@ module _ (n base : ℕ) (last : Record) (h : List Push) where
   loses_at c = markers_lose_at c || (ends_at c && eighth_ends c)
 
   -- ---- the frame record of the first c positions; and that which a loss at position c keeps: "the last frame record", which the losing head is not
-  unfoldable pub record_before : ℕ → Record
+  unfoldable pub record_before : ℕ → Option FrameHead
   record_before c = record_in (lock_before c) c
 
-  unfoldable pub record_at : ℕ → Record
+  unfoldable pub record_at : ℕ → Option FrameHead
   record_at c = when markers_lose_at c then record_before c else record_before (suc c)
 
   -- ---- what the symbol that completes position c tells: its heads, then a loss with the restart position, the next symbol's, or the period's end with

@@ -1,7 +1,7 @@
 -- THE TIE: for every list of pushes from a started sync, as long as none before has lost, the step's heads, periods, losses and records are exactly
 -- what happened. After a loss the sync is a started one, so the same holds from the restart position on.
-use Rattle.std.specs.Prelude.{ℕ, zero, suc, ◌+◌, ◌-◌, ◌≤◌, ◌<◌, true, false, List, ◌≡◌, length, get_or, replicate, drop}
-use Rattle.sync_heads.specs.declared.Record.{Record}
+use Rattle.sync_heads.specs.declared.FrameHead.{FrameHead}
+use Rattle.std.specs.Prelude.{ℕ, zero, suc, ◌+◌, ◌-◌, ◌≤◌, ◌<◌, true, false, List, ◌≡◌, length, get_or, replicate, drop, Option}
 use Rattle.sync_step.specs.declared.Step.{Step}
 use Rattle.sync_step.specs.Step.{place_of}
 use Rattle.sync.specs.declared.SlotSync.{SlotSync}
@@ -32,15 +32,15 @@ pushes n x h zero = x
 pushes n x h (suc m) = push_on n (pushes n x h m) (get_or h m no_push)
 
 -- a started sync with its accumulators at zero
-abbrev pub begun : ℕ → ℕ → Record → Held
+abbrev pub begun : ℕ → ℕ → Option FrameHead → Held
 begun n base last = record { sync = started_sync base last; acc = replicate n 0 }
 
 -- no position of the first m pushes has lost
-abbrev pub Kept : ℕ → ℕ → Record → List Push → ℕ → Type 0
+abbrev pub Kept : ℕ → ℕ → Option FrameHead → List Push → ℕ → Type 0
 Kept n base last h m = (c : ℕ) → c + 23 < m → loses_at n base last h c ≡ false
 
 -- push m of h, after m pushes that did not lose, in a stretch that began at base with this record
-pub record Tells (n base : ℕ) (last : Record) (h : List Push) (m : ℕ) : Type 0 where
+pub record Tells (n base : ℕ) (last : Option FrameHead) (h : List Push) (m : ℕ) : Type 0 where
   -- m symbols have been taken, and the frame record is that of the readings so far
   pub time : (pushes n (begun n base last) h m).sync.run.t ≡ m
   pub record_is : (pushes n (begun n base last) h m).sync.run.course.last ≡ record_before n base last h (m - 23)
@@ -50,7 +50,7 @@ pub record Tells (n base : ℕ) (last : Record) (h : List Push) (m : ℕ) : Type
   pub loss : 23 ≤ m → loses_at n base last h (m - 23) ≡ true → pushes n (begun n base last) h (suc m) ≡ begun n (base + suc m) (record_at n base last h (m - 23))
 
 abbrev pub Tie : Type 0
-Tie = (n base : ℕ) (last : Record) (h : List Push) (m : ℕ) → 0 < n → m < length h → Kept n base last h m → Tells n base last h m
+Tie = (n base : ℕ) (last : Option FrameHead) (h : List Push) (m : ℕ) → 0 < n → m < length h → Kept n base last h m → Tells n base last h m
 
 -- a list of pushes may be cut anywhere: after a loss the rest is a stretch of its own
 abbrev pub Cut : Type 0

@@ -1,5 +1,7 @@
 -- A slot sync as the numbers of a call hold it.
-use Rattle.std.specs.Prelude.{ℕ, ◌+◌, ◌*◌, List, eqb, ℤ}
+use Rattle.sync_heads.specs.Numbers.{last_head}
+use Rattle.sync_heads.specs.declared.FrameHead.{FrameHead}
+use Rattle.std.specs.Prelude.{ℕ, ◌+◌, ◌*◌, List, eqb, ℤ, Option, None}
 use Rattle.laws.specs.Choice.{when◌then◌else◌}
 use Rattle.laws.specs.Ranges.{firsts}
 use Rattle.sync_lock.specs.declared.Tally.{Tally}
@@ -7,8 +9,6 @@ use Rattle.sync_lock.specs.declared.Lock.{Lock}
 use Rattle.sync_lock.specs.declared.Lock.TheVariants.{Search, Locked}
 use Rattle.sync_heads.specs.declared.Stage.{Stage}
 use Rattle.sync_heads.specs.declared.Stage.TheVariants.{Before, First, Known}
-use Rattle.sync_heads.specs.declared.Record.{Record}
-use Rattle.sync_heads.specs.declared.Record.TheVariants.{Never, Last}
 use Rattle.sync_heads.specs.declared.Course.{Course}
 use Rattle.sync_step.specs.declared.Run.{Run}
 use Rattle.fields.specs.Fields.{at, at16, at32, signed32, on, pair_at}
@@ -34,8 +34,8 @@ stage_of p =
     then First (record { at = at p 2; both = record { f = corr_of p 3; s = corr_of p 5 } })
     else Known (record { odd = on p 2; due = on p 3; last = corr_of p 4 })
 
-unfoldable pub record_of : List ℕ → Record
-record_of p = when eqb (at p 11) 0 then Never else Last (at p 12) (at32 p 13)
+unfoldable pub record_of : List ℕ → Option FrameHead
+record_of p = when eqb (at p 11) 0 then None else last_head (at p 12) (at32 p 13)
 
 unfoldable pub course_of : List ℕ → Course
 course_of p =

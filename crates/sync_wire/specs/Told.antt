@@ -1,11 +1,10 @@
 -- A run as 24 numbers: 0, its numbers, and zeros behind them. A negative number is 2^64 more.
-use Rattle.std.specs.Prelude.{ℕ, List, [], ◌∷◌, ◌++◌, replicate}
+use Rattle.sync_heads.specs.declared.FrameHead.{FrameHead}
+use Rattle.std.specs.Prelude.{ℕ, List, [], ◌∷◌, ◌++◌, replicate, Option, None, Some}
 use Rattle.sync_lock.specs.declared.Lock.{Lock}
 use Rattle.sync_lock.specs.declared.Lock.TheVariants.{Search, Locked}
 use Rattle.sync_heads.specs.declared.Stage.{Stage}
 use Rattle.sync_heads.specs.declared.Stage.TheVariants.{Before, First, Known}
-use Rattle.sync_heads.specs.declared.Record.{Record}
-use Rattle.sync_heads.specs.declared.Record.TheVariants.{Never, Last}
 use Rattle.sync_step.specs.declared.Run.{Run}
 use Rattle.wire.specs.Wire.{bits}
 use Rattle.fields.specs.Fields.{flag_of}
@@ -17,9 +16,9 @@ unfoldable pub lock_shown : Lock → ThreeShown
 lock_shown (Search cand count) = record { known = 0; first = cand; second = count }
 lock_shown (Locked offset misses) = record { known = 1; first = offset; second = misses }
 
-unfoldable pub record_shown : Record → ThreeShown
-record_shown Never = record { known = 0; first = 0; second = 0 }
-record_shown (Last at frame) = record { known = 1; first = at; second = frame }
+unfoldable pub record_shown : Option FrameHead → ThreeShown
+record_shown None = record { known = 0; first = 0; second = 0 }
+record_shown (Some s) = record { known = 1; first = s.at; second = s.frame }
 
 unfoldable pub stage_shown : Stage → StageShown
 stage_shown Before = record { stage = 0; first = 0; second = 0; third = 0; fourth = 0; fifth = 0 }

@@ -1,17 +1,20 @@
 // Parts of a run as the numbers of a call hold them.
+#![tactic(auto, using(laws::specs::Choice::cases), unfolding(crate::specs::Given::tally_of, crate::specs::Given::lock_of))]
+
 ghost use Rattle.std.specs.Prelude.{◌≡◌};
 ghost use Rattle.sync_wire.specs.Given.{tally_of, lock_of, stage_of, record_of, course_of};
 
 use sync_corr::Both;
-use sync_heads::{Course, Parity, Reading, Record, Stage};
+use sync_heads::{Course, FrameHead, Parity, Reading, Stage};
 use sync_lock::{Lock, Tally};
+use wire::Field;
 
 pub(crate) fn tally_at(p: &[u64; 24]) -> Tally
     ensures { result ≡ tally_of p.now }
 {
     Tally {
-        peak: wire::low32(p[3]),
-        place: fields::low16(p[4]),
+        peak: u32::of_bits(p[3]),
+        place: u16::of_bits(p[4]),
         sum: p[5],
     }
 }
@@ -19,8 +22,8 @@ pub(crate) fn tally_at(p: &[u64; 24]) -> Tally
 pub(crate) fn lock_at(p: &[u64; 24]) -> Lock
     ensures { result ≡ lock_of p.now }
 {
-    let place = fields::low16(p[7]);
-    let count = wire::low32(p[8]);
+    let place = u16::of_bits(p[7]);
+    let count = u32::of_bits(p[8]);
     if p[6] == 0 {
         Lock::Search {
             cand: place,
@@ -56,16 +59,16 @@ pub(crate) fn stage_at(p: &[u64; 24]) -> Stage
     }
 }
 
-fn record_at(p: &[u64; 24]) -> Record
+fn record_at(p: &[u64; 24]) -> Option<FrameHead>
     ensures { result ≡ record_of p.now }
 {
     if p[11] == 0 {
-        Record::Never
+        None
     } else {
-        Record::Last {
+        Some(FrameHead {
             at: p[12],
-            frame: wire::low32(p[13]),
-        }
+            frame: u32::of_bits(p[13]),
+        })
     }
 }
 
@@ -75,11 +78,11 @@ pub(crate) fn course_at(p: &[u64; 24]) -> Course
     let s = slot_wire::ranged::slot_at(p, 8);
     let l = record_at(p);
     Course {
-        majority: wire::signed32(p[7]),
+        majority: i32::of_bits(p[7]),
         slot: s,
         last: l,
-        misses: wire::low32(p[14]),
-        stray: wire::low32(p[15]),
-        missed: wire::low32(p[16]),
+        misses: u32::of_bits(p[14]),
+        stray: u32::of_bits(p[15]),
+        missed: u32::of_bits(p[16]),
     }
 }

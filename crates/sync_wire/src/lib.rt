@@ -1,5 +1,5 @@
 // A slot sync as numbers of calls and answers, for the replay program of the receiver: its run, the heads of that run, its window.
-#![tactic(auto)]
+#![tactic(auto, unfolding(crate::specs::Given::run_put, crate::specs::Given::heads_put))]
 
 mod given;
 pub mod told;
@@ -13,17 +13,12 @@ use sync_step::Run;
 pub fn run_put(r: Run, p: &[u64; 24]) -> Run
     ensures { result ≡ run_put r p.now }
 {
-    let y = given::tally_at(p);
-    let k = given::lock_at(p);
-    let s = r.stage;
-    let c = r.course;
     Run {
         base: p[1],
         t: p[2],
-        tally: y,
-        lock: k,
-        stage: s,
-        course: c,
+        tally: given::tally_at(p),
+        lock: given::lock_at(p),
+        ..r
     }
 }
 
@@ -31,17 +26,10 @@ pub fn run_put(r: Run, p: &[u64; 24]) -> Run
 pub fn heads_put(r: Run, p: &[u64; 24]) -> Run
     ensures { result ≡ heads_put r p.now }
 {
-    let s = given::stage_at(p);
-    let c = given::course_at(p);
-    let y = r.tally;
-    let k = r.lock;
     Run {
-        base: r.base,
-        t: r.t,
-        tally: y,
-        lock: k,
-        stage: s,
-        course: c,
+        stage: given::stage_at(p),
+        course: given::course_at(p),
+        ..r
     }
 }
 
@@ -57,10 +45,8 @@ pub fn window_at(bytes: &[u8; 192]) -> [i16; 48]
     ensures { result ≡ window_of bytes.now }
 {
     let mut w = no_window();
-    let mut k: usize = 0;
-    while k < 48 {
+    for k in 0..48 {
         w[k] = fields::ranged::pair_at(bytes, 8 + 2 * k);
-        k += 1;
     }
     w
 }

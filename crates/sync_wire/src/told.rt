@@ -1,12 +1,16 @@
 // A run as 24 numbers: 0, its numbers, and zeros behind them. A negative number is 2^64 more.
+#![tactic(auto, unfolding(crate::specs::Told::lock_shown, crate::specs::Told::record_shown, crate::specs::Told::run_told))]
+
 ghost use Rattle.std.specs.Prelude.{◌≡◌};
 ghost use Rattle.sync_wire.specs.Told.{lock_shown, stage_shown, record_shown, run_told, heads_told};
 
-use sync_heads::{Record, Stage};
+use sync_heads::{FrameHead, Stage};
 use sync_lock::Lock;
 use sync_step::Run;
+use wire::Field;
 
-// Whether it is locked, candidate or offset, count or misses; whether there is a record, its position and frame.
+// Whether it is locked, candidate or offset, count or misses; whether there is a record, its position and frame. These are numbers of an answer's
+// bytes, and so are those of a stage.
 #[derive(Clone, Copy)]
 pub struct ThreeShown {
     pub known: u64,
@@ -42,19 +46,19 @@ fn lock_shown(l: Lock) -> ThreeShown
     }
 }
 
-fn record_shown(l: Record) -> ThreeShown
+fn record_shown(l: Option<FrameHead>) -> ThreeShown
     ensures { result ≡ record_shown l }
 {
     match l {
-        Record::Never => ThreeShown {
+        None => ThreeShown {
             known: 0,
             first: 0,
             second: 0,
         },
-        Record::Last { at, frame } => ThreeShown {
+        Some(l) => ThreeShown {
             known: 1,
-            first: at,
-            second: frame as u64,
+            first: l.at,
+            second: l.frame as u64,
         },
     }
 }
@@ -72,25 +76,22 @@ fn stage_shown(s: Stage) -> StageShown
             fifth: 0,
         },
         Stage::First(r) => {
-            let f = r.both.f;
-            let g = r.both.s;
             StageShown {
                 stage: 1,
                 first: r.at,
-                second: wire::bits32(f.re),
-                third: wire::bits32(f.im),
-                fourth: wire::bits32(g.re),
-                fifth: wire::bits32(g.im),
+                second: r.both.f.re.to_bits(),
+                third: r.both.f.im.to_bits(),
+                fourth: r.both.s.re.to_bits(),
+                fifth: r.both.s.im.to_bits(),
             }
         }
         Stage::Known(p) => {
-            let l = p.last;
             StageShown {
                 stage: 2,
                 first: fields::flag(p.odd),
                 second: fields::flag(p.due),
-                third: wire::bits32(l.re),
-                fourth: wire::bits32(l.im),
+                third: p.last.re.to_bits(),
+                fourth: p.last.im.to_bits(),
                 fifth: 0,
             }
         }
@@ -101,16 +102,14 @@ fn stage_shown(s: Stage) -> StageShown
 pub fn run(r: Run) -> [u64; 24]
     ensures { result ≡ run_told r }
 {
-    let y = r.tally;
-    let l = r.lock;
-    let k = lock_shown(l);
+    let k = lock_shown(r.lock);
     [
         0,
         r.base,
         r.t,
-        y.peak as u64,
-        y.place as u64,
-        y.sum,
+        r.tally.peak as u64,
+        r.tally.place as u64,
+        r.tally.sum,
         k.known,
         k.first,
         k.second,
@@ -136,13 +135,10 @@ pub fn run(r: Run) -> [u64; 24]
 pub fn heads(r: Run) -> [u64; 24]
     ensures { result ≡ heads_told r }
 {
-    let g = r.stage;
     let c = r.course;
-    let s = c.slot;
-    let l = c.last;
-    let x = stage_shown(g);
-    let y = slot_wire::slot_shown(s);
-    let z = record_shown(l);
+    let x = stage_shown(r.stage);
+    let y = slot_wire::slot_shown(c.slot);
+    let z = record_shown(c.last);
     [
         0,
         x.stage,
@@ -151,7 +147,7 @@ pub fn heads(r: Run) -> [u64; 24]
         x.third,
         x.fourth,
         x.fifth,
-        wire::bits32(c.majority),
+        c.majority.to_bits(),
         y.known,
         y.number,
         y.frame,

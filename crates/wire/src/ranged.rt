@@ -1,29 +1,27 @@
 // Numbers from bytes, where the caller proves that there are enough.
-ghost use Rattle.std.specs.Prelude.{◌≡◌, ◌+◌, ◌≤◌, ◌<◌, ◌^◌, length};
-ghost use Rattle.wire.specs.Wire.{four_of, word_at, numbers_of};
+ghost use Rattle.std.specs.Prelude.{◌≡◌, ◌+◌, ◌≤◌, ◌<◌, length};
+ghost use Rattle.std.proofs.Math.Seq.{paste};
+ghost use Rattle.wire.specs.Wire.{word_at, number_at, numbers_of};
 
-// The number of four bytes.
-fn four(a: u8, b: u8, c: u8, d: u8) -> u64
-    ensures { (result ≡ four_of a b c d) × (result < 2 ^ 32) }
-{
-    (a as u64) + 256 * (b as u64) + 65536 * (c as u64) + 16777216 * (d as u64)
-}
+use crate::streams;
+use std::io;
+use std::io::Write;
 
 // The number of the eight bytes from k on.
 pub fn word(s: &[u8], k: usize) -> u64
     requires { k + 8 ≤ length s.now }
     ensures { result ≡ word_at s.now k }
 {
-    let low = four(s[k], s[k + 1], s[k + 2], s[k + 3]);
-    let high = four(s[k + 4], s[k + 5], s[k + 6], s[k + 7]);
-    low + 4294967296 * high
-}
-
-// Zeros to fill. A function, since its contract gives a proof the length and no more.
-fn no_numbers() -> [u64; 24]
-    ensures { length result ≡ 24 }
-{
-    [0; 24]
+    u64::from_le_bytes([
+        s[k],
+        s[k + 1],
+        s[k + 2],
+        s[k + 3],
+        s[k + 4],
+        s[k + 5],
+        s[k + 6],
+        s[k + 7],
+    ])
 }
 
 // The first 24 numbers.
@@ -31,11 +29,45 @@ pub fn numbers(s: &[u8]) -> [u64; 24]
     requires { 192 ≤ length s.now }
     ensures { result ≡ numbers_of s.now }
 {
-    let mut n = no_numbers();
-    let mut k: usize = 0;
-    while k < 24 {
-        n[k] = word(s, 8 * k);
-        k += 1;
+    std::array::from_fn(
+        |k: usize| -> u64
+            requires { (k < 24) × (192 ≤ length s.now) }
+            ensures { result ≡ number_at s.entry.now k }
+        { word(s, 8 * k) },
+    )
+}
+
+// The bytes put at `at`.
+pub fn put(bytes: &[u8], buf: &mut [u8], at: usize)
+    requires { at + length bytes.now ≤ length buf.old }
+    ensures { buf.new ≡ paste buf.old at bytes.now (length bytes.now) }
+{
+    let end = at + bytes.len();
+    buf[at..end].copy_from_slice(bytes);
+}
+
+// Replays standard input: blocks of calls of `size` bytes each, as many as `buf` has room for, until the input ends. `block` answers the whole
+// calls of a block; it is lent the bytes of them all. Input that ends within a call is told on standard error.
+// A proved loop has to end, and nothing says that the input does: no run uses up the turns.
+pub fn replay<F: FnMut(&mut [u8]) -> io::Result<()>>(
+    rt: &HostRuntime,
+    buf: &mut [u8],
+    size: usize,
+    mut block: F,
+) -> io::Result<()>
+    requires callable { F.IsAlwaysCallable block }
+    requires some { 0 < size }
+{
+    for _ in 0..u64::MAX {
+        let got = streams::read_full(&mut rt.stdin(), buf)?;
+        let whole = got - got % size;
+        block(&mut buf[..whole])?;
+        if whole < got {
+            return rt.stderr().write_all(b"the input ends within a call\n");
+        }
+        if got < buf.len() {
+            return Ok(());
+        }
     }
-    n
+    Ok(())
 }

@@ -1,6 +1,5 @@
-// What the replay programs share: a block read, and an answer put over its call.
-ghost use Rattle.std.specs.Prelude.{◌≡◌, ◌+◌, ◌≤◌, IfOk, length};
-ghost use Rattle.std.proofs.Math.Seq.{paste};
+// Reads for the replay programs.
+ghost use Rattle.std.specs.Prelude.{◌≤◌, IfOk, length};
 
 use std::io;
 use std::io::Read;
@@ -18,13 +17,4 @@ pub fn read_full<R: Read>(input: &mut R, buf: &mut [u8]) -> io::Result<usize>
         done += n;
     }
     Ok(done)
-}
-
-// The bytes put at `at`.
-pub fn put(bytes: &[u8], buf: &mut [u8], at: usize)
-    requires { at + length bytes.now ≤ length buf.old }
-    ensures { buf.new ≡ paste buf.old at bytes.now (length bytes.now) }
-{
-    let end = at + bytes.len();
-    buf[at..end].copy_from_slice(bytes);
 }

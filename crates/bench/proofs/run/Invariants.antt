@@ -1,8 +1,7 @@
 use lib.ListN.{length, drop}
-use mathlib.Core.Bool.{true}
 use mathlib.Core.List.{List, []}
 use mathlib.Core.Path.{◌≡◌}
-use Prim.Native.Nat.{ℕ, ◌≤◌, ◌<◌}
+use Prim.Native.Nat.{ℕ, ◌-◌, ◌≤◌}
 use lib.IntN.{ℤ}
 use Rattle.receiver_slot.specs.declared.AlignedRun.{AlignedRun}
 use Rattle.bench_text.specs.Pages.{Paged}
@@ -16,8 +15,9 @@ page i vs to out = record { next = i; rest = vs; place = to; out = out }
 abbrev pub led : ℕ → AlignedRun → Paged → Paged
 led k r p = (pages_from k r (record { sent = []; page = p })).page
 
-abbrev pub invariant-loop-turns : goal.invariant-loop-turns
-invariant-loop-turns l = (l.u ≤ length l.soft) × (length l.out ≡ length l.initial.out) × (l.ok ≡ true → led l.turns l.r (page l.i (drop l.u l.soft) l.to l.out) ≡ led l.initial.turns l.r (page l.initial.i (drop l.initial.u l.soft) l.initial.to l.initial.out)) × (0 < l.turns → l.ok ≡ true)
-
-abbrev pub decreases-loop-turns : goal.decreases-loop-turns
-decreases-loop-turns l = l.turns
+abbrev pub invariant-pages : goal.invariant-pages
+invariant-pages l =
+    record {
+      value : l.p.v ≤ length l.soft;
+      same : led (65536 - l.counter) l.r (page l.p.i (drop l.p.v l.soft) l.p.place l.out) ≡ led 65536 l.r (page 0 (drop l.initial.p.v l.soft) l.initial.p.place l.initial.out);
+    }

@@ -10,6 +10,6 @@ pub returns-then-place-le64768 : goal.returns-then-place-le64768
 unfolding room_at
 returns-then-place-le64768 c = (sym (if_yes _ _ _ (le-leb _ _ c.if-place-le64768.true)), omega arith)
 
-pub returns-else-place-le64768 : goal.returns-else-place-le64768
+pub returns-in_ok-write : goal.returns-in_ok-write
 unfolding room_at
-returns-else-place-le64768 c = (sym (if_no _ _ _ (lt-leb _ _ c.if-place-le64768.false)), omega arith)
+returns-in_ok-write c = (sym (if_no _ _ _ (lt-leb _ _ c.if-place-le64768.false)), omega arith)

@@ -5,4 +5,4 @@ use Rattle.c_api.specs.Api.{polar_numbers}
 use Rattle.c_api.proofs.sv_cordic.Goals as goal
 
 pub returns : goal.returns
-returns c = c.of_turned.ensures ∙ ap polar_numbers (rw (to_z-of_z c.ranges.re, to_z-of_z c.ranges.im) at c.cordic.ensures)
+returns c = c.of_two.ensures ∙ ap polar_numbers (rw (to_z-of_z c.ranges.re, to_z-of_z c.ranges.im) at c.cordic.ensures)

@@ -5,4 +5,4 @@ use Rattle.c_api.specs.Api.{number}
 use Rattle.c_api.proofs.sv_div_round.Goals as goal
 
 pub returns : goal.returns
-returns c = c.of_whole.ensures ∙ ap number (rw (to_z-of_z c.ranges.a, to_z-of_z c.ranges.b) at c.div_round.ensures)
+returns c = c.of_one.ensures ∙ ap number (rw (to_z-of_z c.ranges.a, to_z-of_z c.ranges.b) at c.div_round.ensures)

@@ -5,4 +5,4 @@ use Rattle.c_api.specs.Api.{number}
 use Rattle.c_api.proofs.sv_mag_approx.Goals as goal
 
 pub returns : goal.returns
-returns c = c.of_whole.ensures ∙ ap number (rw (to_z-of_z c.ranges.re, to_z-of_z c.ranges.im) at c.mag_approx.ensures)
+returns c = c.of_one.ensures ∙ ap number (rw (to_z-of_z c.ranges.re, to_z-of_z c.ranges.im) at c.mag_approx.ensures)

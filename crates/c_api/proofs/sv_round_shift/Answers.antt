@@ -5,4 +5,4 @@ use Rattle.c_api.specs.Api.{number}
 use Rattle.c_api.proofs.sv_round_shift.Goals as goal
 
 pub returns : goal.returns
-returns c = c.of_whole.ensures ∙ ap number (rw (to_z-of_z c.ranges.v) at c.round_shift.ensures)
+returns c = c.of_one.ensures ∙ ap number (rw (to_z-of_z c.ranges.v) at c.round_shift.ensures)

@@ -1,58 +1,44 @@
 -- `capture::contents` meets its contract. Assumes nothing.
-use Rattle.capture.specs.Contents.{entry_of, contents_fit, contents_of}
-use mathlib.Core.Bool.{false}
-use mathlib.Core.Path.{◌≡◌, refl, sym, ap}
-use borrow.Author.Tests.{le-leb, lt-leb}
-use lib.ListN.{length}
-use Rattle.laws.specs.Choice.{if_no}
-use Rattle.capture.specs.declared.entries.Listed.{Listed}
-use mathlib.Core.Bool.{Bool, ◌&&◌}
-use mathlib.Core.List.{List}
-use mathlib.Core.Path.{◌∙◌}
-use Prim.Native.Nat.{ℕ, ◌≤◌}
-use lib.Dec.{eqb}
-use lib.ListN.{get_or}
-use Rattle.capture.specs.Contents.{entry_fits, length_of}
-use Rattle.capture.proofs.Laws.{contents_yes, contents_no}
+use mathlib.Core.Path.{sym, ◌∙◌}
+use Rattle.std.proofs.lemmas.Result.{err_from_is_err_and}
+use Rattle.capture.specs.declared.entries.Kind.TheVariants.{Words, Table, Points, Symbols}
+use Rattle.capture.proofs.Laws.{entry_taken, entry_refused, contents_yes, contents_no, contents_short, contents_first, contents_fit_all, each}
 use Rattle.capture.proofs.contents.Goals as goal
-
-fit_of : (s : List ℕ) (w t p q : Bool) → 33 ≤ length s → w ≡ entry_fits s 0 → t ≡ entry_fits s 1 → p ≡ entry_fits s 2 → q ≡ entry_fits s 3 →
-    contents_fit s ≡ ((((eqb (get_or s 0 0) 4 && w) && t) && p) && q)
-unfolding contents_fit
-fit_of s w t p q h a b c d = rw (le-leb 33 (length s) h, a, b, c, d)
-
-fits-of : (s : List ℕ) (n : ℕ) (e : Listed) → e ≡ entry_of s n → e.fits ≡ entry_fits s n
-unfolding entry_of
-fits-of s n e h = ap (λ (e : Listed). e.fits) h
-
-length-of : (s : List ℕ) (n : ℕ) (e : Listed) → e ≡ entry_of s n → e.length ≡ length_of s n
-unfolding entry_of
-length-of s n e h = ap (λ (e : Listed). e.length) h
+use Rattle.capture.proofs.contents.Goals.{then-bytes-lt33-via-then-bytes-lt33, then-bytes-lt33-via-else-bytes-lt33+then-bytes-ne4}
 
 pub returns-then-bytes-lt33 : goal.returns-then-bytes-lt33
-unfolding contents_of contents_fit
-returns-then-bytes-lt33 c = rw (lt-leb 33 (length c.args.bytes.now) c.if-bytes-lt33.true) (sym (if_no false _ _ refl))
-
-pub returns-then-bytes-w : goal.returns-then-bytes-w
-returns-then-bytes-w c =
+returns-then-bytes-lt33 c =
     let s = c.args.bytes.now in
-    let h = c.if-bytes-lt33.false in
-    let w = c.entry-w in
-    let t = c.entry-t in
-    let p = c.entry-p in
-    let q = c.entry-s in
-    let e = fit_of s w.result.fits t.result.fits p.result.fits q.result.fits h
-    (fits-of s 0 w.result w.ensures) (fits-of s 1 t.result t.ensures) (fits-of s 2 p.result p.ensures) (fits-of s 3 q.result q.ensures) in
-    rw (contents_yes s (e ∙ c.if-bytes-w.true), length-of s 2 p.result p.ensures, length-of s 3 q.result q.ensures)
+    elim c.then-bytes-lt33.branch [
+      | then-bytes-lt33-via-then-bytes-lt33 w ↦ contents_no s (contents_short s w.if-bytes-lt33.true)
+      | then-bytes-lt33-via-else-bytes-lt33+then-bytes-ne4 w ↦ contents_no s (contents_first s w.if-bytes-ne4.true)
+    ]
 
-pub returns-else-bytes-w : goal.returns-else-bytes-w
-returns-else-bytes-w c =
+pub returns-in_err-entry : goal.returns-in_err-entry
+returns-in_err-entry c =
+    let p = err_from_is_err_and c.from_residual.result c.from_residual.ensures.1 in
+    entry_refused c.args.bytes.now Words _ _ _ (sym c.in_err-entry.was ∙ c.entry.ensures) p.1 p.2
+
+pub returns-in_err-entry-2 : goal.returns-in_err-entry-2
+returns-in_err-entry-2 c =
+    let p = err_from_is_err_and c.from_residual-in_err-entry-2.result c.from_residual-in_err-entry-2.ensures.1 in
+    entry_refused c.args.bytes.now Table _ _ _ (sym c.in_err-entry-2.was ∙ c.entry-2.ensures) p.1 p.2
+
+pub returns-in_err-points : goal.returns-in_err-points
+returns-in_err-points c =
+    let p = err_from_is_err_and c.from_residual-in_err-points.result c.from_residual-in_err-points.ensures.1 in
+    entry_refused c.args.bytes.now Points _ _ _ (sym c.in_err-points.was ∙ c.entry-3.ensures) p.1 p.2
+
+pub returns-in_err-symbols : goal.returns-in_err-symbols
+returns-in_err-symbols c =
+    let p = err_from_is_err_and c.from_residual-in_err-symbols.result c.from_residual-in_err-symbols.ensures.1 in
+    entry_refused c.args.bytes.now Symbols _ _ _ (sym c.in_err-symbols.was ∙ c.entry-4.ensures) p.1 p.2
+
+pub returns : goal.returns
+returns c =
     let s = c.args.bytes.now in
-    let h = c.if-bytes-lt33.false in
-    let w = c.entry-w in
-    let t = c.entry-t in
-    let p = c.entry-p in
-    let q = c.entry-s in
-    let e = fit_of s w.result.fits t.result.fits p.result.fits q.result.fits h
-    (fits-of s 0 w.result w.ensures) (fits-of s 1 t.result t.ensures) (fits-of s 2 p.result p.ensures) (fits-of s 3 q.result q.ensures) in
-    sym (contents_no s (e ∙ c.if-bytes-w.false))
+    let w = entry_taken s Words _ (sym c.in_ok-entry.was ∙ c.entry.ensures) in
+    let t = entry_taken s Table _ (sym c.in_ok-entry-2.was ∙ c.entry-2.ensures) in
+    let p = entry_taken s Points _ (sym c.in_ok-points.was ∙ c.entry-3.ensures) in
+    let q = entry_taken s Symbols _ (sym c.in_ok-symbols.was ∙ c.entry-4.ensures) in
+    rw (p.1, q.1) (contents_yes s (contents_fit_all s c.if-bytes-lt33.false c.if-bytes-ne4.false (each s w.0 t.0 p.0 q.0)))

@@ -4,4 +4,4 @@ use Rattle.capture.proofs.share.Goals as goal
 
 pub returns : goal.returns
 unfolding shared_of
-returns c = rw c.lesser.ensures
+returns c = rw c.min.ensures

@@ -1,17 +1,16 @@
--- `carrier::head` meets its contract: what is accepted is in range. Assumes nothing.
+-- `carrier::head` meets its contract: what is accepted has a carrier in range. Assumes nothing.
 use mathlib.Core.Path.{sym, ◌∙◌}
-use Rattle.laws.specs.Choice.{cases}
 use Rattle.carrier.specs.Answers.{head_answer}
-use Rattle.carrier.proofs.Laws.{nco_ok, head-accepts}
+use Rattle.carrier.proofs.Laws.{head-accepts, nco_ok}
 use Rattle.carrier.proofs.head.Goals as goal
 
 pub heard-requires : goal.heard-requires
-heard-requires c = let a = c.args in nco_ok a.n (head-accepts a.n a.h (sym c.head-k.ensures ∙ c.if-k-eq0.true))
+heard-requires c = nco_ok c.args.n (head-accepts c.args.n c.args.h (sym c.head.ensures ∙ c.in-Ok.is))
 
-pub returns-then-k-eq0 : goal.returns-then-k-eq0
+pub returns-in-Ok : goal.returns-in-Ok
 unfolding head_answer
-returns-then-k-eq0 c = rw (← c.head-k.ensures, c.heard.ensures) (search cases)
+returns-in-Ok c = rw (← c.head.ensures, c.in-Ok.is, c.heard.ensures)
 
-pub returns-else-k-eq0 : goal.returns-else-k-eq0
+pub returns-in-Err : goal.returns-in-Err
 unfolding head_answer
-returns-else-k-eq0 c = rw (← c.head-k.ensures) (search cases)
+returns-in-Err c = rw (← c.head.ensures, c.in-Err.is)

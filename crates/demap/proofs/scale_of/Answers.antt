@@ -1,10 +1,10 @@
 -- `demap::scale_of` meets its contract. Assumes nothing.
+use Rattle.std.specs.Prelude.{Ok}
 use mathlib.Core.Path.{◌≡◌, sym, ap, ◌∙◌}
 use mir.Facts.{to_z-of_z}
 use mir.Syntax.{w64}
 use Rattle.fx.proofs.Laws.{not_wide}
 use Rattle.fx.specs.Answers.{wide}
-use Rattle.fx.specs.declared.Whole.TheVariants.{Value}
 use Rattle.laws.proofs.Size.{back}
 use Rattle.laws.specs.Choice.{if_yes, if_no}
 use Rattle.demap.specs.Answers.{scale_answer}
@@ -27,5 +27,5 @@ scale-requires c =
 pub returns-else-wide : goal.returns-else-wide
 unfolding scale_answer
 returns-else-wide c =
-    ap Value (back w64 c.scale.result c.scale.type_inv ∙ (rw (to_z-of_z c.ranges.n0) at c.scale.ensures))
+    ap Ok (back w64 c.scale.result c.scale.type_inv ∙ (rw (to_z-of_z c.ranges.n0) at c.scale.ensures))
     ∙ sym (if_no _ _ _ (sym (tested c.before.before) ∙ c.if-wide.false))

@@ -9,6 +9,3 @@ abbrev pub invariant-loop-i : goal.invariant-loop-i
 invariant-loop-i l = (l.i ≤ l.n)
     × (so_far 192 answer_bytes after length_answer (l.n - l.i) (desk l.s l.learned l.nominal) l.buf (192 * l.i) ≡ replayed (desk l.initial.s l.initial.learned l.initial.nominal) l.n l.initial.buf)
     × (left_from 192 answer_bytes after length_answer (l.n - l.i) (desk l.s l.learned l.nominal) l.buf (192 * l.i) ≡ left_of (desk l.initial.s l.initial.learned l.initial.nominal) l.n l.initial.buf)
-
-abbrev pub decreases-loop-i : goal.decreases-loop-i
-decreases-loop-i l = l.n - l.i

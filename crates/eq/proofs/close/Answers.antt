@@ -1,16 +1,11 @@
 use Rattle.eq.specs.Answers.{close_answer}
-use Rattle.laws.specs.Choice.{cases}
+use mathlib.Core.Path.{◌∙◌, sym}
 use Rattle.eq.proofs.close.Goals as goal
 
-pub returns-then-opened : goal.returns-then-opened
+pub returns-in-Ok : goal.returns-in-Ok
 unfolding close_answer
-returns-then-opened c =
-    rw (c.with_sums.ensures, c.new-none.ensures, ← c.in_range.ensures) (search cases)
+returns-in-Ok c = rw (c.closed.ensures, sym c.range_refusal.ensures ∙ c.in-Ok.is)
 
-pub returns-else-opened : goal.returns-else-opened
+pub returns-in-Err : goal.returns-in-Err
 unfolding close_answer
-returns-else-opened c = rw (c.new-none.ensures, ← c.in_range.ensures) (search cases)
-
-pub returns-else-in_range : goal.returns-else-in_range
-unfolding close_answer
-returns-else-in_range c = rw (c.new-none.ensures, ← c.in_range.ensures) (search cases)
+returns-in-Err c = rw (sym c.range_refusal.ensures ∙ c.in-Err.is)

@@ -1,11 +1,11 @@
 use Rattle.eq.specs.Answers.{load_answer}
-use Rattle.laws.specs.Choice.{cases}
+use mathlib.Core.Path.{◌∙◌, sym}
 use Rattle.eq.proofs.load.Goals as goal
 
-pub returns-then-in_range : goal.returns-then-in_range
+pub returns-in-Ok : goal.returns-in-Ok
 unfolding load_answer
-returns-then-in_range c = rw (c.loaded.ensures, ← c.in_range.ensures) (search cases)
+returns-in-Ok c = rw (c.loaded.ensures, sym c.range_refusal.ensures ∙ c.in-Ok.is)
 
-pub returns-else-in_range : goal.returns-else-in_range
+pub returns-in-Err : goal.returns-in-Err
 unfolding load_answer
-returns-else-in_range c = rw (← c.in_range.ensures) (search cases)
+returns-in-Err c = rw (sym c.range_refusal.ensures ∙ c.in-Err.is)

@@ -1,11 +1,11 @@
 use Rattle.eq.specs.Answers.{open_answer}
-use Rattle.laws.specs.Choice.{cases}
+use mathlib.Core.Path.{◌∙◌, sym}
 use Rattle.eq.proofs.open.Goals as goal
 
-pub returns-then-in_range : goal.returns-then-in_range
+pub returns-in-Ok : goal.returns-in-Ok
 unfolding open_answer
-returns-then-in_range c = rw (c.with_sums.ensures, c.new.ensures, ← c.in_range.ensures) (search cases)
+returns-in-Ok c = rw (c.with_sums.ensures, c.new.ensures, sym c.range_refusal.ensures ∙ c.in-Ok.is)
 
-pub returns-else-in_range : goal.returns-else-in_range
+pub returns-in-Err : goal.returns-in-Err
 unfolding open_answer
-returns-else-in_range c = rw (← c.in_range.ensures) (search cases)
+returns-in-Err c = rw (sym c.range_refusal.ensures ∙ c.in-Err.is)

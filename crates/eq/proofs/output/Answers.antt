@@ -1,11 +1,11 @@
 use Rattle.eq.specs.Answers.{output_answer}
-use Rattle.laws.specs.Choice.{cases}
+use mathlib.Core.Path.{◌∙◌, sym}
 use Rattle.eq.proofs.output.Goals as goal
 
-pub returns-then-in_range : goal.returns-then-in_range
+pub returns-in-Ok : goal.returns-in-Ok
 unfolding output_answer
-returns-then-in_range c = rw (c.output.ensures, ← c.in_range.ensures) (search cases)
+returns-in-Ok c = rw (c.output.ensures, sym c.range_refusal.ensures ∙ c.in-Ok.is)
 
-pub returns-else-in_range : goal.returns-else-in_range
+pub returns-in-Err : goal.returns-in-Err
 unfolding output_answer
-returns-else-in_range c = rw (← c.in_range.ensures) (search cases)
+returns-in-Err c = rw (sym c.range_refusal.ensures ∙ c.in-Err.is)

@@ -1,14 +1,14 @@
 use Rattle.eq.specs.Answers.{push_answer}
-use Rattle.laws.specs.Choice.{cases}
+use mathlib.Core.Path.{◌∙◌, sym}
 use mir.Facts.{to_z-of_z}
 use Rattle.eq.proofs.push.Goals as goal
 
-pub returns-then-in_range : goal.returns-then-in_range
+pub returns-in-Ok : goal.returns-in-Ok
 unfolding push_answer
-returns-then-in_range c =
-    let g = rw (to_z-of_z c.ranges.i, to_z-of_z c.ranges.q) at c.pushed-n.ensures in
-    rw (c.output_of.ensures, g, ← c.in_range.ensures) (search cases)
+returns-in-Ok c =
+    let g = rw (to_z-of_z c.ranges.i, to_z-of_z c.ranges.q) at c.pushed-eq.ensures in
+    rw (c.output_of.ensures, g, sym c.range_refusal.ensures ∙ c.in-Ok.is)
 
-pub returns-else-in_range : goal.returns-else-in_range
+pub returns-in-Err : goal.returns-in-Err
 unfolding push_answer
-returns-else-in_range c = rw (← c.in_range.ensures) (search cases)
+returns-in-Err c = rw (sym c.range_refusal.ensures ∙ c.in-Err.is)

@@ -1,11 +1,11 @@
 use Rattle.eq.specs.Answers.{restart_answer}
-use Rattle.laws.specs.Choice.{cases}
+use mathlib.Core.Path.{◌∙◌, sym}
 use Rattle.eq.proofs.restart.Goals as goal
 
-pub returns-then-in_range : goal.returns-then-in_range
+pub returns-in-Ok : goal.returns-in-Ok
 unfolding restart_answer
-returns-then-in_range c = rw (c.started.ensures, ← c.in_range.ensures) (search cases)
+returns-in-Ok c = rw (c.started.ensures, sym c.range_refusal.ensures ∙ c.in-Ok.is)
 
-pub returns-else-in_range : goal.returns-else-in_range
+pub returns-in-Err : goal.returns-in-Err
 unfolding restart_answer
-returns-else-in_range c = rw (← c.in_range.ensures) (search cases)
+returns-in-Err c = rw (sym c.range_refusal.ensures ∙ c.in-Err.is)

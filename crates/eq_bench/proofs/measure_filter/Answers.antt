@@ -1,6 +1,7 @@
 -- `eq_bench::measure_filter` meets its contract. Assumes nothing.
 use mathlib.Core.Path.{refl, sym, ap, ◌∙◌}
 use borrow.Author.Tests.{leb-true}
+use native.Mathlib.Omega.{arith}
 use lib.Dec.{leb}
 use lib.ListN.{length}
 use Rattle.eq_fir.specs.Fir.{no_line}
@@ -15,7 +16,7 @@ filter_all-requires c =
     let a = c.args in
     let r = c.all_in_byte in
     let t = and_both r.result (leb (length a.ys.now) (length a.out.now)) c.if-all_in_byte-ys.true in
-    (rows_bytes a.rows.now (sym r.ensures ∙ t.0), refl, leb-true _ _ t.1)
+    (rows_bytes a.rows.now (omega arith) (sym r.ensures ∙ t.0), refl, leb-true _ _ t.1)
 
 pub returns-then-all_in_byte-ys : goal.returns-then-all_in_byte-ys
 unfolding filtered_code filtered_out no_line

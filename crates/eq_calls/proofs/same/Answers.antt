@@ -4,4 +4,4 @@ use Rattle.eq_calls.proofs.same.Goals as goal
 
 pub returns : goal.returns
 unfolding same
-returns c = rw (c.turned.ensures, c.told-t.ensures)
+returns c = rw c.told.ensures

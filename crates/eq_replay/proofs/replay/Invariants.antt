@@ -9,6 +9,3 @@ abbrev pub invariant-loop-i : goal.invariant-loop-i
 invariant-loop-i l = (l.i ≤ l.n)
     × (so_far 192 answer_bytes after length_answer (l.n - l.i) l.s l.buf (192 * l.i) ≡ replayed l.initial.s l.n l.initial.buf)
     × (left_from 192 answer_bytes after length_answer (l.n - l.i) l.s l.buf (192 * l.i) ≡ left_of l.initial.s l.n l.initial.buf)
-
-abbrev pub decreases-loop-i : goal.decreases-loop-i
-decreases-loop-i l = l.n - l.i

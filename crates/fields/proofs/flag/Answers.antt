@@ -1,12 +1,6 @@
 -- `fields::flag` meets its contract. Assumes nothing.
-use Rattle.laws.specs.Choice.{cases}
-use Rattle.fields.specs.Fields.{flag_of}
+use Rattle.fields.proofs.Laws.{flag_byte}
 use Rattle.fields.proofs.flag.Goals as goal
 
-pub returns-then-b : goal.returns-then-b
-unfolding flag_of
-returns-then-b c = search cases
-
-pub returns-else-b : goal.returns-else-b
-unfolding flag_of
-returns-else-b c = search cases
+pub returns : goal.returns
+returns c = rw c.from.ensures (flag_byte c.args.b)

@@ -1,17 +1,16 @@
 -- `frame::push` meets its contract. Assumes nothing.
-use mathlib.Core.Path.{sym, ◌∙◌}
-use Rattle.laws.specs.Choice.{cases}
+use mathlib.Core.Path.{sym}
 use Rattle.frame.specs.Answers.{push_answer}
 use Rattle.frame.proofs.Laws.{push_ok}
 use Rattle.frame.proofs.push.Goals as goal
 
 pub pushed-requires : goal.pushed-requires
-pushed-requires c = let a = c.args in push_ok a.b a.c a.f a.s (sym c.push-n.ensures ∙ c.if-n-eq0.true)
+pushed-requires c = let a = c.args in push_ok a.b a.c a.f a.s (sym c.in-Ok.ensures)
 
-pub returns-then-n-eq0 : goal.returns-then-n-eq0
+pub returns-in-Ok : goal.returns-in-Ok
 unfolding push_answer
-returns-then-n-eq0 c = rw (c.pushed.ensures, ← c.push-n.ensures) (search cases)
+returns-in-Ok c = rw (c.pushed.ensures, ← c.in-Ok.ensures)
 
-pub returns-else-n-eq0 : goal.returns-else-n-eq0
+pub returns-in-Err : goal.returns-in-Err
 unfolding push_answer
-returns-else-n-eq0 c = rw (← c.push-n.ensures) (search cases)
+returns-in-Err c = rw (← c.in-Err.ensures)

@@ -7,17 +7,17 @@ use Rattle.frame_map.proofs.reference.Goals as goal
 
 pub reference-requires : goal.reference-requires
 reference-requires c =
-    let o = and_both c.ones.result c.ones-2.result c.if-ones.true in
-    (c.if-k-lt24.true, sym c.ones.ensures ∙ o.0, sym c.ones-2.ensures ∙ o.1)
+    let o = and_both c.ones.result c.ones-2.result c.if-not-ones.false in
+    (c.if-k-ge24.false, sym c.ones.ensures ∙ o.0, sym c.ones-2.ensures ∙ o.1)
 
-pub returns-then-k-lt24 : goal.returns-then-k-lt24
+pub returns-then-not-ones : goal.returns-then-not-ones
 unfolding reference_answer
-returns-then-k-lt24 c = rw (c.reference.ensures, ← c.ones.ensures, ← c.ones-2.ensures) (search cases)
+returns-then-not-ones c = rw (← c.ones.ensures, ← c.ones-2.ensures) (search cases)
 
-pub returns-else-k-lt24 : goal.returns-else-k-lt24
+pub returns-then-k-ge24 : goal.returns-then-k-ge24
 unfolding reference_answer
-returns-else-k-lt24 c = rw (← c.ones.ensures, ← c.ones-2.ensures) (search cases)
+returns-then-k-ge24 c = rw (← c.ones.ensures, ← c.ones-2.ensures) (search cases)
 
-pub returns-else-ones : goal.returns-else-ones
+pub returns : goal.returns
 unfolding reference_answer
-returns-else-ones c = rw (← c.ones.ensures, ← c.ones-2.ensures) (search cases)
+returns c = rw (c.reference.ensures, ← c.ones.ensures, ← c.ones-2.ensures) (search cases)

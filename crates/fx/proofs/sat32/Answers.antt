@@ -19,4 +19,4 @@ pub returns-else-wide : goal.returns-else-wide
 unfolding sat32_answer
 returns-else-wide c =
     let r = to_z-of_z c.ranges.v in
-    rw (to_z-of_z (record { sfits = c.clamp32.type_inv }), rw r at c.clamp32.ensures) (sym (if_no _ _ _ (sym (tested c.before.before) ∙ c.if-wide.false)))
+    rw (to_z-of_z (record { sfits = c.sat32.type_inv }), rw r at c.sat32.ensures) (sym (if_no _ _ _ (sym (tested c.before.before) ∙ c.if-wide.false)))

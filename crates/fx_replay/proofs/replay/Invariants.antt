@@ -7,6 +7,3 @@ use Rattle.fx_replay.proofs.replay.Given as goal
 
 abbrev pub invariant-loop-i : goal.invariant-loop-i
 invariant-loop-i l = (l.i ≤ l.n) × (so_far 24 answer_bytes same length_answer (l.n - l.i) l.table l.buf (24 * l.i) ≡ replayed l.table l.n l.initial.buf)
-
-abbrev pub decreases-loop-i : goal.decreases-loop-i
-decreases-loop-i l = l.n - l.i

@@ -1,23 +1,20 @@
 -- `learn::points` meets its contract. Assumes nothing.
-use mathlib.Core.Path.{sym, ◌∙◌}
-use lib.ListN.{length}
-use Rattle.laws.specs.Choice.{cases}
+use mathlib.Core.Path.{refl, sym}
 use Rattle.learn.specs.Answers.{points_answer, points_slice}
 use Rattle.learn.proofs.Laws.{points_taken}
 use Rattle.learn.proofs.points.Goals as goal
 
 pub pointed-requires : goal.pointed-requires
 pointed-requires c =
-    let a = c.args in
-    let k = points_taken a.l a.bits (length a.learned.now) (sym c.points-n.ensures ∙ c.if-n-eq0.true) in
+    let k = points_taken _ _ _ (sym c.in-Ok.ensures) in
     (k.learn_ok, k.bits_ok, k.long)
 
-pub returns-then-n-eq0 : goal.returns-then-n-eq0
+pub returns-in-Ok : goal.returns-in-Ok
 unfolding points_answer points_slice
-returns-then-n-eq0 c =
+returns-in-Ok c =
     let g = c.pointed.ensures in
-    (rw (g.0, ← c.points-n.ensures) (search cases), g.1 ∙ rw (← c.points-n.ensures) (search cases))
+    rw (g.0, ← c.in-Ok.ensures) (refl, g.1)
 
-pub returns-else-n-eq0 : goal.returns-else-n-eq0
+pub returns-in-Err : goal.returns-in-Err
 unfolding points_answer points_slice
-returns-else-n-eq0 c = rw (← c.points-n.ensures) (search cases, search cases)
+returns-in-Err c = rw (← c.in-Err.ensures) (refl, refl)

@@ -1,22 +1,20 @@
 -- `lines::end` meets its contract. Assumes nothing.
-use mathlib.Core.Path.{refl, sym, ◌∙◌}
-use Prim.Native.Nat.{◌+◌}
-use borrow.Author.Tests.{leb-true}
+use mathlib.Core.Path.{sym, ◌∙◌}
+use native.Mathlib.Omega.{arith}
 use lib.ListN.{length}
 use Rattle.lines.specs.Lines.{end_line}
-use Rattle.lines.proofs.Laws.{was_printed, was_refused, room_yes, room_no}
+use Rattle.lines.proofs.Laws.{was_printed, room_ok, room_yes}
 use Rattle.lines.proofs.end.Goals as goal
 
-pub ended-requires : goal.ended-requires
-ended-requires c =
+pub counted-requires : goal.counted-requires
+counted-requires c =
     let a = c.args in
-    leb-true (a.at + 256) (length a.out.now) (sym c.room.ensures ∙ c.if-room.true)
+    (room_ok a.at (length a.out.now) _ (sym c.in_ok-room.was ∙ c.room.ensures), omega arith)
 
-pub returns-then-room : goal.returns-then-room
-returns-then-room c =
+pub returns : goal.returns
+unfolding end_line
+returns c =
     let a = c.args in
-    let t = c.ended in
-    was_printed a.out.now a.at (end_line a.symbols) t.new.out t.result _ (room_yes a.at (length a.out.now) (sym c.room.ensures ∙ c.if-room.true)) t.ensures
-
-pub returns-else-room : goal.returns-else-room
-returns-else-room c = let a = c.args in was_refused a.out.now a.at (end_line a.symbols) _ 1 (room_no a.at (length a.out.now) (sym c.room.ensures ∙ c.if-room.false)) refl
+    let t = c.counted in
+    let h = room_ok a.at (length a.out.now) _ (sym c.in_ok-room.was ∙ c.room.ensures) in
+    was_printed a.out.now a.at (end_line a.symbols) t.new.out t.result _ (room_yes a.at (length a.out.now) h) t.ensures

@@ -3,10 +3,13 @@ use Rattle.lines.specs.Lines.{slot_text}
 use Rattle.lines.proofs.Laws.{then}
 use Rattle.lines.proofs.slot.Goals as goal
 
-pub returns-in-Unknown : goal.returns-in-Unknown
+pub returns-in-None : goal.returns-in-None
 unfolding slot_text
-returns-in-Unknown c = rw c.in-Unknown.is c.text.ensures
+returns-in-None c = rw c.in-None.is c.text.ensures
 
-pub returns-in-In : goal.returns-in-In
+pub returns-in-Some : goal.returns-in-Some
 unfolding slot_text
-returns-in-In c = rw c.in-In.is (then c.number_then-a.ensures.0 c.number_then.ensures.0)
+returns-in-Some c =
+    let a = rw c.from.ensures at c.number_then-a.ensures.0 in
+    let b = rw c.from-in-Some.ensures at c.number_then.ensures.0 in
+    rw c.in-Some.is (then a b)

@@ -1,6 +1,6 @@
 -- `lines::told` meets its contract. Assumes nothing.
 use native.Mathlib.Omega.{arith}
-use Rattle.lines.specs.Lines.{event_line}
+use Rattle.lines.specs.Lines.{lost_line, event_line}
 use Rattle.lines.proofs.Laws.{nothing}
 use Rattle.lines.proofs.told.Goals as goal
 
@@ -17,5 +17,5 @@ unfolding event_line
 returns-in-Period c = rw c.in-Period.is c.period.ensures
 
 pub returns-in-Lost : goal.returns-in-Lost
-unfolding event_line
-returns-in-Lost c = rw c.in-Lost.is c.lost.ensures
+unfolding event_line lost_line
+returns-in-Lost c = rw c.in-Lost.is c.counted.ensures

@@ -1,8 +1,7 @@
 -- `phase::push` meets its contract. Assumes nothing.
-use mathlib.Core.Path.{sym, ◌∙◌}
+use mathlib.Core.Path.{sym, refl, ◌∙◌}
 use lib.ListN.{length}
 use mir.Facts.{to_z-of_z}
-use Rattle.laws.specs.Choice.{cases}
 use Rattle.phase.proofs.Laws.{push_taken}
 use Rattle.phase.specs.Answers.{push_answer, push_store}
 use Rattle.phase.proofs.push.Goals as goal
@@ -10,14 +9,14 @@ use Rattle.phase.proofs.push.Goals as goal
 pub pushed-requires : goal.pushed-requires
 pushed-requires c =
     let a = c.args in
-    (push_taken a.s (length a.store.now) (sym c.push-n.ensures ∙ c.if-n-eq0.true)).long
+    (push_taken a.s (length a.store.now) (sym c.push.ensures ∙ c.in-Ok.is)).long
 
-pub returns-then-n-eq0 : goal.returns-then-n-eq0
+pub returns-in-Ok : goal.returns-in-Ok
 unfolding push_answer push_store
-returns-then-n-eq0 c =
+returns-in-Ok c =
     let g = rw (to_z-of_z c.ranges.i, to_z-of_z c.ranges.q) at c.pushed.ensures in
-    (rw (g.0, ← c.push-n.ensures) (search cases), g.1 ∙ rw (← c.push-n.ensures) (search cases))
+    rw (← c.push.ensures, c.in-Ok.is, g.0) (refl, g.1)
 
-pub returns-else-n-eq0 : goal.returns-else-n-eq0
+pub returns-in-Err : goal.returns-in-Err
 unfolding push_answer push_store
-returns-else-n-eq0 c = rw (← c.push-n.ensures) (search cases, search cases)
+returns-in-Err c = rw (← c.push.ensures, c.in-Err.is) (refl, refl)

@@ -27,9 +27,10 @@ loop-j-preserved c =
     let h = c.loop-j in
     let a = c.args in
     let r = c.corrected-c in
-    let hi : mag r.result.y.i < 2 ^ 15 = search in
-    let hq : mag r.result.y.q < 2 ^ 15 = search in
-    let hg : mag r.result.gain < 2 ^ 63 = c.struct_told-in-loop-j-2-1.given.1.1.1.1.1.1.0.1 in
+    let told = c.struct_told-in-loop-j-1.given.1.1.1.1.1.1 in
+    let hi : mag r.result.y.i < 2 ^ 15 = told.1.0.1.1.0.1 in
+    let hq : mag r.result.y.q < 2 ^ 15 = told.1.0.1.1.1.0.1 in
+    let hg : mag r.result.gain < 2 ^ 63 = told.0.1 in
     rw (back w16 r.result.y.i hi, back w16 r.result.y.q hq, back w64 r.result.gain hg) (
       omega (arith, c.loop-j-test.true),
       correct_more a.w a.table.now a.store.now h.j (places a.y.now a.phi.now a.gain.now) (places h.y h.phi h.gain) r.result h.invariant.1 r.ensures,

@@ -10,8 +10,8 @@ use Rattle.phase_bench.specs.Blocks.{Turned, rotated_phase, rotated_out}
 use Rattle.phase_bench.proofs.measure_rotate.Goals as goal
 
 -- src/lib.rt:36:13
-pub rotate_all-r-requires : goal.rotate_all-r-requires
-rotate_all-r-requires c =
+pub rotate_all-requires : goal.rotate_all-requires
+rotate_all-requires c =
     let a = c.args in
     let t = and_both (eqb (length a.table.now) 1024) (leb (length a.xs.now) (length a.out.now)) c.if-table-xs.true in
     (eqb-true _ 1024 t.0, leb-true _ _ t.1)
@@ -20,7 +20,7 @@ rotate_all-r-requires c =
 pub returns-then-table-xs : goal.returns-then-table-xs
 unfolding rotated_phase rotated_out
 returns-then-table-xs c =
-    let e = rw (c.started-n.ensures, to_z-of_z c.ranges.freq) at c.rotate_all-r.ensures in
+    let e = rw (c.started.ensures, to_z-of_z c.ranges.freq) at c.rotate_all.ensures in
     let t = c.if-table-xs.true in
     (ap (λ (x : Turned). x.nco.phase) e ∙ sym (if_yes _ _ _ t), ap (λ (x : Turned). x.out) e ∙ sym (if_yes _ _ _ t))
 

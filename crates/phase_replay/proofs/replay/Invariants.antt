@@ -9,6 +9,3 @@ abbrev pub invariant-loop-i : goal.invariant-loop-i
 invariant-loop-i l = (l.i ≤ l.n)
     × (so_far 192 answer_bytes after length_answer (l.n - l.i) (lent l.table l.store) l.buf (192 * l.i) ≡ replayed (lent l.initial.table l.initial.store) l.n l.initial.buf)
     × (left_from 192 answer_bytes after length_answer (l.n - l.i) (lent l.table l.store) l.buf (192 * l.i) ≡ left_of (lent l.initial.table l.initial.store) l.n l.initial.buf)
-
-abbrev pub decreases-loop-i : goal.decreases-loop-i
-decreases-loop-i l = l.n - l.i

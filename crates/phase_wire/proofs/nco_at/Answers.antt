@@ -5,4 +5,4 @@ use Rattle.phase_wire.proofs.nco_at.Goals as goal
 
 pub returns : goal.returns
 unfolding nco_of
-returns c = rw (to_z-of_z (record { sfits = c.signed32.type_inv }), c.signed32.ensures, c.low32.ensures, c.trail_at-t.ensures)
+returns c = rw (to_z-of_z (record { sfits = c.of_bits-2.type_inv }), c.of_bits-2.ensures, c.of_bits.ensures, c.trail_at.ensures)

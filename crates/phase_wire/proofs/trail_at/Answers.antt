@@ -12,4 +12,4 @@ returns-then-p-eq0 c = sym (if_yes _ _ _ (eq-eqb _ _ c.if-p-eq0.true))
 
 pub returns-else-p-eq0 : goal.returns-else-p-eq0
 unfolding trail_of
-returns-else-p-eq0 c = rw (to_z-of_z (record { sfits = c.of_bits.type_inv }), c.low32-else-p-eq0.ensures, c.of_bits.ensures, c.low32.ensures) (sym (if_no _ _ _ (ne_eqb _ _ c.if-p-eq0.false)))
+returns-else-p-eq0 c = rw (to_z-of_z (record { sfits = c.of_bits-else-p-eq0.type_inv }), c.of_bits-else-p-eq0-2.ensures, c.of_bits-else-p-eq0.ensures, c.of_bits.ensures) (sym (if_no _ _ _ (ne_eqb _ _ c.if-p-eq0.false)))

@@ -13,34 +13,28 @@ pub loop-j-init : goal.loop-j-init
 unfolding feed_many
 loop-j-init c = (omega arith, omega arith, refl, refl, refl, refl)
 
-pub turn-x-requires : goal.turn-x-requires
-turn-x-requires c = c.loop-j.invariant.1
+pub turn-requires : goal.turn-requires
+turn-requires c = c.loop-j.invariant.1
 
 pub overflow_add-taken : goal.overflow_add-taken
-overflow_add-taken c = omega (arith, c.turn-x.ensures.2, c.well_formed.0.0)
-
-pub overflow_add-j : goal.overflow_add-j
-overflow_add-j c = omega (arith, c.loop-j-test.true, c.ranges)
-
-pub loop-j-smaller : goal.loop-j-smaller
-loop-j-smaller c = omega (arith, c.loop-j-test.true)
+overflow_add-taken c = rw c.taken_of-x.ensures (record { fits = omega (arith, c.turn.ensures.2, c.well_formed.0.0) })
 
 pub loop-j-preserved : goal.loop-j-preserved
 loop-j-preserved c =
     let h = c.loop-j in
-    let g = c.turn-x in
+    let g = c.turn in
     let a = c.args in
     let b : Block = record { bytes = a.bytes.now; f = a.words.f; s = a.words.s; table = a.table.now } in (
       omega (arith, c.loop-j-test.true),
-      g.ensures.2,
-      feed_more b h.j _ (flow h.r h.taken h.refusal (lent_of h.acc h.store h.soft)) g.result _ h.invariant.2 g.ensures.0 g.ensures.1,
+      rw c.taken_of-x.ensures g.ensures.2,
+      rw c.taken_of-x.ensures (feed_more b h.j _ (flow h.r h.taken h.refusal (lent_of h.acc h.store h.soft)) g.result _ h.invariant.2 g.ensures.0 g.ensures.1),
       g.auto.acc ∙ h.invariant.3,
       g.auto.store ∙ h.invariant.4,
       g.auto.soft ∙ h.invariant.5,
     )
 
 pub shape_of-acc : goal.shape_of-acc
-shape_of-acc c = c.loop-j.invariant.3 ∙ c.new-a.auto.acc
+shape_of-acc c = c.loop-j.invariant.3 ∙ c.begin-b.auto.acc
 
 pub shape_of-store : goal.shape_of-store
 shape_of-store c = c.loop-j.invariant.4
@@ -52,11 +46,10 @@ pub returns : goal.returns
 returns c =
     let h = c.loop-j in
     let a = c.args in
-    let n = c.new-a in
-    let p = c.load_points-b in
+    let p = c.begin-b in
     let b : Block = record { bytes = a.bytes.now; f = a.words.f; s = a.words.s; table = a.table.now } in
     let w : Flow = new_flow a.bits a.points.now a.k (lent_of a.acc.now a.store.now a.soft.now) in
     let e : h.j ≡ a.calls = omega (arith, h.invariant.0, c.loop-j-test) in
-    let z = new_flow_lem a.bits a.points.now a.k a.acc.now _ a.store.now a.soft.now n.result p.result n.ensures.0 n.ensures.1 (rw (to_z-of_z {w = w64} c.ranges.k) at p.ensures) in
+    let z = new_flow_lem a.bits a.points.now a.k a.acc.now _ a.store.now a.soft.now p.result (rw (to_z-of_z {w = w64} c.ranges.k) at p.ensures.0) p.ensures.1 in
     let q = h.invariant.2 ∙ ap (λ (x : Flow). feed_many b h.j x) z ∙ ap (λ (v : ℕ). feed_many b v w) e in
     (ap received q, ap (λ (x : Flow). x.lent) q)

@@ -8,6 +8,3 @@ use Rattle.receiver_replay.proofs.replay.Given as goal
 
 abbrev pub invariant-loop-i : goal.invariant-loop-i
 invariant-loop-i l = (l.i ≤ l.n) × (so_far 192 answer_bytes after length_answer (l.n - l.i) (all l.s l.table l.acc l.store l.soft l.input) l.buf (192 * l.i) ≡ replayed (all l.initial.s l.initial.table l.initial.acc l.initial.store l.initial.soft l.initial.input) l.n l.initial.buf) × (left_from 192 answer_bytes after length_answer (l.n - l.i) (all l.s l.table l.acc l.store l.soft l.input) l.buf (192 * l.i) ≡ left_of (all l.initial.s l.initial.table l.initial.acc l.initial.store l.initial.soft l.initial.input) l.n l.initial.buf)
-
-abbrev pub decreases-loop-i : goal.decreases-loop-i
-decreases-loop-i l = l.n - l.i

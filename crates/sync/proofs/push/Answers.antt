@@ -1,23 +1,23 @@
-use Rattle.laws.specs.Choice.{cases}
+use Rattle.std.proofs.Common.{◌≡◌, ◌∙◌, ap, sym, length, to_z-of_z, is_ok, Ok, Result}
+use Rattle.refusal.specs.declared.Refused.{Refused}
 use Rattle.sync.proofs.Laws.{taking}
 use Rattle.sync.specs.Answers.{push_acc, push_answer}
-use lib.ListN.{length}
-use mathlib.Core.Path.{◌∙◌, sym}
-use mir.Facts.{to_z-of_z}
+use Rattle.sync.specs.declared.Pushed.{Pushed}
+use Rattle.sync.specs.declared.SlotSync.{SlotSync}
 use Rattle.sync.proofs.push.Goals as goal
 
 pub accepted-requires : goal.accepted-requires
 accepted-requires c =
     let a = c.args in
-    let t = taking (length a.acc.now) a.f a.w a.s.run (sym c.push_refusal-n.ensures ∙ c.if-n-eq0.true) in
+    let t = taking (length a.acc.now) a.f a.w a.s.run (sym c.push_refusal.ensures ∙ c.in-Ok.is) in
     (t.ready, t.ones_f, t.ones_w, t.long)
 
-pub returns-then-n-eq0 : goal.returns-then-n-eq0
+pub returns-in-Ok : goal.returns-in-Ok
 unfolding push_answer push_acc
-returns-then-n-eq0 c =
+returns-in-Ok c =
     let g = rw (to_z-of_z c.ranges.i, to_z-of_z c.ranges.q) at c.accepted.ensures in
-    (g.0 ∙ rw (← c.push_refusal-n.ensures) (search cases), g.1 ∙ rw (← c.push_refusal-n.ensures) (search cases))
+    (rw (← c.push_refusal.ensures, c.in-Ok.is, g.0), rw (← c.push_refusal.ensures, c.in-Ok.is) g.1)
 
-pub returns-else-n-eq0 : goal.returns-else-n-eq0
+pub returns-in-Err : goal.returns-in-Err
 unfolding push_answer push_acc
-returns-else-n-eq0 c = (rw (c.refused.ensures, ← c.push_refusal-n.ensures) (search cases), rw (← c.push_refusal-n.ensures) (search cases))
+returns-in-Err c = (rw (← c.push_refusal.ensures, c.in-Err.is), rw (← c.push_refusal.ensures, c.in-Err.is))

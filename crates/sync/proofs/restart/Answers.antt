@@ -1,13 +1,10 @@
-use Rattle.laws.specs.Choice.{cases}
 use Rattle.sync.specs.Answers.{restart_acc, restart_answer}
-use mathlib.Core.Path.{◌∙◌}
 use Rattle.sync.proofs.restart.Goals as goal
 
-pub returns-then-n-eq0 : goal.returns-then-n-eq0
+pub returns-in-Ok : goal.returns-in-Ok
 unfolding restart_answer restart_acc
-returns-then-n-eq0 c =
-    (rw (c.started.ensures, ← c.restart_refusal-n.ensures) (search cases), c.clear.ensures ∙ rw (← c.restart_refusal-n.ensures) (search cases))
+returns-in-Ok c = (rw (c.started.ensures, ← c.restart_refusal.ensures, c.in-Ok.is), rw (← c.restart_refusal.ensures, c.in-Ok.is) c.clear.ensures)
 
-pub returns-else-n-eq0 : goal.returns-else-n-eq0
+pub returns-in-Err : goal.returns-in-Err
 unfolding restart_answer restart_acc
-returns-else-n-eq0 c = rw (← c.restart_refusal-n.ensures) (search cases, search cases)
+returns-in-Err c = (rw (← c.restart_refusal.ensures, c.in-Err.is), rw (← c.restart_refusal.ensures, c.in-Err.is))

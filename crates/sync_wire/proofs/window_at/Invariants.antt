@@ -8,6 +8,3 @@ use Rattle.sync_wire.proofs.window_at.Given as goal
 
 abbrev pub invariant-loop-k : goal.invariant-loop-k
 invariant-loop-k l = (l.k ≤ 48) × (l.w ≡ firsts (window_at l.bytes) l.k ++ drop l.k l.initial.w)
-
-abbrev pub decreases-loop-k : goal.decreases-loop-k
-decreases-loop-k l = 48 - l.k

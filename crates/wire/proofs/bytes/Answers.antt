@@ -5,4 +5,4 @@ use Rattle.wire.proofs.bytes.Goals as goal
 
 pub returns : goal.returns
 unfolding bytes_of byte_of
-returns c = rw (div-one c.args.u)
+returns c = rw (c.to_le_bytes.ensures, div-one c.args.u)

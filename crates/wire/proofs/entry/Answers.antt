@@ -1,26 +1,12 @@
 -- `wire::entry` meets its contract. Assumes nothing.
-use mathlib.Core.Path.{◌≡◌, sym, ◌∙◌}
-use Prim.Native.Nat.{ℕ, ◌+◌, ◌-◌, ◌*◌, ◌^◌, ◌≤◌}
-use native.Mathlib.Omega.{arith}
-use lib.IntN.{negsuc, ◌-ℤ◌}
-use mir.Facts.{to_z-of_z, to_z_pos}
-use mir.Syntax.{w16}
-use mir.Val.{to_z}
-use Rattle.wire.proofs.Laws.{lowered, signed_pos, signed_neg}
-use borrow.Author.Rules.{rules}
+use Rattle.std.proofs.Common.{ℕ, ◌≡◌, ◌+◌, ◌*◌, ◌^◌, Fits, w16, refl, arith}
+use Rattle.wire.proofs.Laws.{read_signed}
 use Rattle.wire.proofs.entry.Goals as goal
 
-below : (u : ℕ) → 2 ^ 15 ≤ u → negsuc 0 -ℤ to_z w16 (2 ^ 16 - 1 - u) ≡ negsuc (2 ^ 16 - 1 - u)
-below u h = lowered w16 (2 ^ 16 - 1 - u) (omega arith)
-
-pub overflow_cast-result : goal.overflow_cast-result
-overflow_cast-result c = search rules
-
-pub overflow_sub-result-else-u-lt32768 : goal.overflow_sub-result-else-u-lt32768
-overflow_sub-result-else-u-lt32768 c = rw (below (c.args.low + 256 * c.args.high) c.if-u-lt32768.false) (record { sfits = omega arith })
-
-pub returns-then-u-lt32768 : goal.returns-then-u-lt32768
-returns-then-u-lt32768 c = to_z_pos w16 (overflow_cast-result c).sfits ∙ sym (signed_pos (2 ^ 15) (c.args.low + 256 * c.args.high) c.if-u-lt32768.true)
-
-pub returns-else-u-lt32768 : goal.returns-else-u-lt32768
-returns-else-u-lt32768 c = let u : ℕ = c.args.low + 256 * c.args.high in to_z-of_z (overflow_sub-result-else-u-lt32768 c) ∙ below u c.if-u-lt32768.false ∙ sym (signed_neg (2 ^ 15) u c.if-u-lt32768.false)
+pub returns : goal.returns
+returns c =
+    let low : ℕ = c.args.low in
+    let high : ℕ = c.args.high in
+    let f : Fits w16 (low + 256 * high) = record { fits = omega (arith, c.ranges.low.fits, c.ranges.high.fits) } in
+    let e : low + high * 256 ≡ low + 256 * high = omega arith in
+    read_signed w16 (2 ^ 15) (low + 256 * high) c.from_le_bytes.result f refl refl (rw e at c.from_le_bytes.ensures)

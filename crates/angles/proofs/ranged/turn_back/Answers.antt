@@ -40,8 +40,8 @@ overflow_add-i c =
     let p = c.requires in
     fits w64 (sum_of a.i a.q a.p.cos a.p.sin p.2 p.3 p.0 p.1) tt
 
-pub round_shift-re-requires : goal.round_shift-re-requires
-round_shift-re-requires c =
+pub round_shift-requires : goal.round_shift-requires
+round_shift-requires c =
     let a = c.args in
     let p = c.requires in
     let n = at w64 (sum_of a.i a.q a.p.cos a.p.sin p.2 p.3 p.0 p.1) tt in
@@ -65,8 +65,8 @@ overflow_sub-q c =
     let p = c.requires in
     fits w64 (dif-of a.i a.q a.p.cos a.p.sin p.2 p.3 p.0 p.1) tt
 
-pub round_shift-im-requires : goal.round_shift-im-requires
-round_shift-im-requires c =
+pub round_shift-requires-2 : goal.round_shift-requires-2
+round_shift-requires-2 c =
     let a = c.args in
     let p = c.requires in
     let n = at w64 (dif-of a.i a.q a.p.cos a.p.sin p.2 p.3 p.0 p.1) tt in
@@ -79,4 +79,4 @@ returns c =
     let p = c.requires in
     let n = at w64 (sum_of a.i a.q a.p.cos a.p.sin p.2 p.3 p.0 p.1) tt in
     let m = at w64 (dif-of a.i a.q a.p.cos a.p.sin p.2 p.3 p.0 p.1) tt in
-    rw (to_z-of_z (record { sfits = c.round_shift-re.type_inv }), to_z-of_z (record { sfits = c.round_shift-im.type_inv }), rw n.is at c.round_shift-re.ensures, rw m.is at c.round_shift-im.ensures)
+    rw (to_z-of_z (record { sfits = c.round_shift.type_inv }), to_z-of_z (record { sfits = c.round_shift-2.type_inv }), rw n.is at c.round_shift.ensures, rw m.is at c.round_shift-2.ensures)

@@ -1,24 +1,27 @@
 -- One of two lines. Assumes nothing.
-use Rattle.std.proofs.Common.{ℕ, List, sym, subst, eq-eqb, ne_eqb}
-use Rattle.laws.specs.Choice.{if_yes, if_no}
-use Rattle.lines.specs.Place.{Wrote}
 use Rattle.lines.specs.Lines.{end_line, refused_line}
-use Rattle.bench_text.specs.Bench.{last_text}
-use Rattle.bench_text.proofs.Laws.{end_short, refused_short, line_wrote}
+use Rattle.bench_text.proofs.Laws.{end_short, refused_short, line_ok, line_wrote}
 use Rattle.bench_text.proofs.ranged.last.Goals as goal
 
-pub returns-then-refusal-eq0 : goal.returns-then-refusal-eq0
-unfolding last_text
-returns-then-refusal-eq0 c =
-    let a = c.args in
-    let x = c.end-r in
-    let w = line_wrote a.out.now a.place (end_line a.symbols) x.new.out x.result (end_short a.symbols) c.requires x.ensures in
-    subst (λ (t : List ℕ). Wrote a.out.now a.place t x.new.out x.result.place) (sym (if_yes _ _ _ (eq-eqb a.refusal 0 c.if-refusal-eq0.true))) w
+pub unwrap-requires : goal.unwrap-requires
+unwrap-requires c =
+    let a = c.args in line_ok a.out.now a.place (end_line c.in-Ok.symbols) c.end.new.out c.end.result c.requires c.end.ensures
 
-pub returns-else-refusal-eq0 : goal.returns-else-refusal-eq0
-unfolding last_text
-returns-else-refusal-eq0 c =
+pub unwrap-requires-in-Err : goal.unwrap-requires-in-Err
+unwrap-requires-in-Err c =
     let a = c.args in
-    let x = c.refused-r in
-    let w = line_wrote a.out.now a.place (refused_line a.refusal) x.new.out x.result (refused_short a.refusal) c.requires x.ensures in
-    subst (λ (t : List ℕ). Wrote a.out.now a.place t x.new.out x.result.place) (sym (if_no _ _ _ (ne_eqb a.refusal 0 c.if-refusal-eq0.false))) w
+    line_ok a.out.now a.place (refused_line c.from.result) c.refused.new.out c.refused.result c.requires c.refused.ensures
+
+pub returns-in-Ok : goal.returns-in-Ok
+returns-in-Ok c =
+    let a = c.args in
+    let n = c.in-Ok.symbols in
+    rw c.in-Ok.is
+    (line_wrote a.out.now a.place (end_line n) c.end.new.out c.end.result c.unwrap.result (end_short n) c.requires c.end.ensures c.unwrap.ensures)
+
+pub returns-in-Err : goal.returns-in-Err
+returns-in-Err c =
+    let a = c.args in
+    let n = c.from.result in
+    rw (c.in-Err.is, ← c.from.ensures)
+    (line_wrote a.out.now a.place (refused_line n) c.refused.new.out c.refused.result c.unwrap-in-Err.result (refused_short n) c.requires c.refused.ensures c.unwrap-in-Err.ensures)

@@ -7,4 +7,4 @@ pub returns-then-room-lt256 : goal.returns-then-room-lt256
 returns-then-room-lt256 c = let a = c.args in sym (more_none a.n a.i a.room a.place c.if-room-lt256.true)
 
 pub returns-else-room-lt256 : goal.returns-else-room-lt256
-returns-else-room-lt256 c = let a = c.args in more_some a.n a.i a.room a.place c.if-room-lt256.false
+returns-else-room-lt256 c = let a = c.args in rw c.from.ensures (more_some a.n a.i a.room a.place c.if-room-lt256.false)

@@ -4,4 +4,4 @@ use Rattle.c_api.specs.Arrays.{correlated}
 use Rattle.c_api.proofs.arrays.sv_correlate.Goals as goal
 
 pub returns : goal.returns
-returns c = c.of_correlated.ensures ∙ ap correlated c.correlate.ensures
+returns c = c.of_two.ensures ∙ ap correlated c.correlate.ensures

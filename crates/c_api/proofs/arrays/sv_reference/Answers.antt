@@ -2,4 +2,4 @@
 use Rattle.c_api.proofs.arrays.sv_reference.Goals as goal
 
 pub returns : goal.returns
-returns c = rw (c.of_referred.ensures, c.reference.ensures, c.word_numbered-w.ensures)
+returns c = rw (c.of_two.ensures, c.reference.ensures, c.word_numbered.ensures)

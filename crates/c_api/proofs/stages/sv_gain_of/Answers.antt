@@ -5,4 +5,4 @@ use Rattle.c_api.specs.Api.{number}
 use Rattle.c_api.proofs.stages.sv_gain_of.Goals as goal
 
 pub returns : goal.returns
-returns c = c.of_whole.ensures ∙ ap number (rw (to_z-of_z c.ranges.amp) at c.gain_of.ensures)
+returns c = c.of_one.ensures ∙ ap number (rw (to_z-of_z c.ranges.amp) at c.gain_of.ensures)

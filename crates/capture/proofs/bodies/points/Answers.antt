@@ -1,38 +1,57 @@
 -- `capture::bodies::points` meets its contract. Assumes nothing.
-use mathlib.Core.List.{List, ◌++◌}
-use mathlib.Core.Path.{◌≡◌, refl, ap, ◌∙◌}
-use Prim.Native.Nat.{ℕ, ◌+◌, ◌*◌}
+use mathlib.Core.Bool.{true}
+use mathlib.Core.Path.{◌≡◌, sym, ◌∙◌}
+use Prim.Native.Nat.{ℕ, ◌+◌, ◌*◌, ◌%◌, ◌^◌, ◌≤◌}
 use native.Mathlib.Omega.{arith}
-use lib.IntN.{ℤ, pos}
-use lib.ListN.{length, length-replicate}
-use mir.Facts.{to_z-of_z}
-use Rattle.laws.proofs.Lists.{firsts-step, length-firsts}
-use Rattle.laws.specs.Ranges.{firsts}
-use Rattle.capture.specs.Bytes.{short_at}
-use Rattle.capture.specs.Bodies.{points_from, padded}
-use Rattle.capture.proofs.Laws.{drop_zeros}
+use borrow.Author.Tests.{lt-ltb, le-ltb}
+use Rattle.laws.specs.Choice.{if_yes, if_no}
+use Rattle.capture.specs.Bodies.{bits_of, points_of, scale_of, points_fit, points_refusal, loaded_of, points_answer}
+use Rattle.capture.proofs.Laws.{fits, points_short, points_judged, told_ok, told_err}
 use Rattle.capture.proofs.bodies.points.Goals as goal
 
-pub loop-i-init : goal.loop-i-init
-unfolding firsts
-loop-i-init c = (omega arith, refl)
+-- how many numbers the points have
+many : (b p : ℕ) → points_fit b p ≡ true → (2 * 2 ^ b % 2 ^ 64 ≡ 2 * 2 ^ b) × (2 * 2 ^ b ≤ 64) × (p ≡ 5 + 4 * 2 ^ b) × (b ≤ 5)
+many b p h = let f = fits b p h in (omega (arith, f.few), omega (arith, f.few), f.is, f.most)
 
-pub loop-i-preserved : goal.loop-i-preserved
-loop-i-preserved c =
-    let a = c.args in
-    let z = c.no_points-t in
-    let n : length z.result ≡ 64 = rw z.ensures (length-replicate 64 (pos 0)) in (
-      omega arith,
-      rw (to_z-of_z (record { sfits = c.short.type_inv }), c.loop-i.invariant.1)
-          (firsts-step (λ (j : ℕ). short_at a.bytes.now (2178 + 2 * j)) z.result c.loop-i.i c.short.result c.short.ensures (omega arith)),
-    )
+pub returns-then-bytes-end : goal.returns-then-bytes-end
+unfolding points_answer
+returns-then-bytes-end c =
+    let s = c.args.bytes.now in
+    let p = c.args.p in
+    told_err (points_refusal s p) (loaded_of s p) _ (points_short s p c.if-bytes-end.true)
+
+pub returns-then-not-points_fit : goal.returns-then-not-points_fit
+unfolding points_answer bits_of
+returns-then-not-points_fit c =
+    let s = c.args.bytes.now in
+    let p = c.args.p in
+    let f = sym c.points_fit.ensures ∙ c.if-not-points_fit.true in
+    told_err (points_refusal s p) (loaded_of s p) _ (points_judged s p c.if-bytes-end.false ∙ if_no _ _ _ f)
+
+pub returns-then-k-gt16777216 : goal.returns-then-k-gt16777216
+unfolding points_answer bits_of scale_of
+returns-then-k-gt16777216 c =
+    let s = c.args.bytes.now in
+    let p = c.args.p in
+    let f = sym c.points_fit.ensures ∙ c.if-not-points_fit.false in
+    let k = rw c.number-k.ensures at c.if-k-gt16777216.true in
+    told_err (points_refusal s p) (loaded_of s p) _ (points_judged s p c.if-bytes-end.false ∙ if_yes _ _ _ f ∙ if_yes _ _ _ (lt-ltb 16777216 _ k))
+
+pub overflow_shl-bits : goal.overflow_shl-bits
+overflow_shl-bits c =
+    let f = many _ _ (sym c.points_fit.ensures ∙ c.if-not-points_fit.false) in omega (arith, f.3)
+
+pub padded-requires : goal.padded-requires
+padded-requires c =
+    let f = many _ _ (sym c.points_fit.ensures ∙ c.if-not-points_fit.false) in
+    (omega (arith, f), omega (arith, f, c.if-bytes-end.false))
 
 pub returns : goal.returns
-unfolding padded points_from
+unfolding points_answer loaded_of bits_of scale_of points_of
 returns c =
-    let a = c.args in
-    let z = c.no_points-t in
-    let f : ℕ → ℤ = λ (j : ℕ). short_at a.bytes.now (2178 + 2 * j) in
-    let e : c.loop-i.i ≡ a.n = omega arith in
-    (rw (e, z.ensures) at c.loop-i.invariant.1)
-    ∙ rw (length-firsts f a.n) (ap (λ (l : List ℤ). firsts f a.n ++ l) (drop_zeros a.n 64 (pos 0) (omega arith)))
+    let s = c.args.bytes.now in
+    let p = c.args.p in
+    let f = sym c.points_fit.ensures ∙ c.if-not-points_fit.false in
+    let k = rw c.number-k.ensures at c.if-k-gt16777216.false in
+    rw (c.padded.ensures, (many _ _ f).0, c.number-k.ensures)
+    (told_ok (points_refusal s p) (loaded_of s p) (points_judged s p c.if-bytes-end.false ∙ if_yes _ _ _ f ∙ if_no _ _ _ (le-ltb 16777216 _ k)))

@@ -1,8 +1,8 @@
 -- `capture::numbers::number` meets its contract. Assumes nothing.
-use borrow.Author.Rules.{rules}
+use native.Mathlib.Omega.{arith}
 use Rattle.capture.specs.Bytes.{number_at}
 use Rattle.capture.proofs.numbers.number.Goals as goal
 
 pub returns : goal.returns
 unfolding number_at
-returns c = search rules
+returns c = omega (arith, c.from_le_bytes.ensures)

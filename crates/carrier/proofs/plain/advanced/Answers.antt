@@ -7,8 +7,8 @@ use Rattle.laws.proofs.Size.{arg, at, fits, back}
 use Rattle.carrier.specs.Carrier.{advanced_nco}
 use Rattle.carrier.proofs.plain.advanced.Goals as goal
 
-pub overflow_cast-f : goal.overflow_cast-f
-overflow_cast-f c = let f : mag c.args.n.freq < 2 ^ 31 = search in fits w64 (arg {w = w32} {z = c.args.n.freq} (record { sfits = f })) tt
+pub overflow_cast-n : goal.overflow_cast-n
+overflow_cast-n c = let f : mag c.args.n.freq < 2 ^ 31 = search in fits w64 (arg {w = w32} {z = c.args.n.freq} (record { sfits = f })) tt
 
 pub turn_on-requires : goal.turn_on-requires
 turn_on-requires c =

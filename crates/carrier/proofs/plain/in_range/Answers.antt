@@ -2,10 +2,10 @@
 use Rattle.carrier.specs.Ranges.{trail_in_range, nco_in_range}
 use Rattle.carrier.proofs.plain.in_range.Goals as goal
 
-pub returns-in-Empty : goal.returns-in-Empty
+pub returns-in-None : goal.returns-in-None
 unfolding nco_in_range trail_in_range
-returns-in-Empty c = rw c.in-Empty.is
+returns-in-None c = rw c.in-None.is
 
-pub returns-in-Since : goal.returns-in-Since
+pub returns-in-Some : goal.returns-in-Some
 unfolding nco_in_range trail_in_range
-returns-in-Since c = rw (c.in-Since.is, c.steps_in_range.ensures)
+returns-in-Some c = rw (c.in-Some.is, c.steps_in_range.ensures)

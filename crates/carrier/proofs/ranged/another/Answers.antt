@@ -40,4 +40,4 @@ unfolding ssync_heard
 returns-else-steps-lt60 c =
     let n = c.args.n in
     let f : mag n.freq < 2 ^ 31 = search in
-    rw (back w32 c.tune.result c.tune.type_inv, c.tune.ensures, (at w64 (more c.before.before.before.before.before.before) tt).is, back w32 n.freq f) (search cases)
+    rw (c.since.ensures, back w32 c.tune.result c.tune.type_inv, c.tune.ensures, (at w64 (more c.before.before.before.before.before.before.before) tt).is, back w32 n.freq f) (search cases)

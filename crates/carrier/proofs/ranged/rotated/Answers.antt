@@ -44,15 +44,15 @@ small c =
     rw (told c) (turned_small c.cos_sin_round-p.result a.xi a.xq e.1 e.2 (byte c.ranges.xi).size (byte c.ranges.xq).size)
 
 pub overflow_cast-result : goal.overflow_cast-result
-overflow_cast-result c = fits w16 (at w64 (num c.turn_back-r.result.re 4096 (small c.before.before).re) tt) tt
+overflow_cast-result c = fits w16 (at w64 (num c.turn_back-r.result.re 4096 (small c.before.before.before).re) tt) tt
 
 pub overflow_cast-result-2 : goal.overflow_cast-result-2
-overflow_cast-result-2 c = fits w16 (at w64 (num c.turn_back-r.result.im 4096 (small c.before.before).im) tt) tt
+overflow_cast-result-2 c = fits w16 (at w64 (num c.turn_back-r.result.im 4096 (small c.before.before.before.before).im) tt) tt
 
 pub returns : goal.returns
 unfolding rotated_of
 returns c =
-    let s = small c.before.before in
+    let s = small c.before.before.before.before in
     let r = c.turn_back-r.result in
     rw ((at w16 (at w64 (num r.re 4096 s.re) tt) tt).is, (at w16 (at w64 (num r.im 4096 s.im) tt) tt).is)
-    (rw (told c.before.before, c.cos_sin_round-p.ensures.0), s.re, s.im, s.both)
+    (rw (told c.before.before.before.before, c.cos_sin_round-p.ensures.0), s.re, s.im, s.both)

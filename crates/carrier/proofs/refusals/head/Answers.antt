@@ -1,39 +1,12 @@
 -- `carrier::refusals::head` meets its contract: one case at each return. Assumes nothing.
-use Prim.Native.Nat.{◌<◌, ◌^◌}
-use mathlib.Core.Path.{◌≡◌}
-use lib.Signed.{mag}
-use mir.Syntax.{w64}
-use Rattle.laws.proofs.Size.{back}
-use Rattle.fx.specs.Answers.{wide}
 use Rattle.laws.specs.Choice.{cases}
 use Rattle.carrier.specs.Answers.{head_refusal}
-use Rattle.carrier.proofs.refusals.head.Lts as lts
-use Rattle.carrier.proofs.refusals.head.Tie as tie
-use Rattle.carrier.proofs.refusals.head.Reads as reads
 use Rattle.carrier.proofs.refusals.head.Goals as goal
 
--- the test of `amp`
-wide-told : (c : (lts.After-wide tie.the-claims reads.Pre reads.Post)) → c.wide.result ≡ wide c.args.h.amp
-wide-told c =
-    let a = c.args.h in
-    let h : mag a.amp < 2 ^ 63 = search in
-    rw (back w64 a.amp h) at c.wide.ensures
-
-pub returns-then-wide : goal.returns-then-wide
+pub returns-then-not-in_range : goal.returns-then-not-in_range
 unfolding head_refusal
-returns-then-wide c =
-    rw (← c.in_range.ensures, ← (wide-told c.before)) (search cases)
+returns-then-not-in_range c = rw (← c.in_range.ensures) (search cases)
 
-pub returns-then-h-ge4611686018427387904 : goal.returns-then-h-ge4611686018427387904
+pub returns : goal.returns
 unfolding head_refusal
-returns-then-h-ge4611686018427387904 c =
-    rw (← c.in_range.ensures, ← (wide-told c.before.before.before)) (search cases)
-
-pub returns-else-h-ge4611686018427387904 : goal.returns-else-h-ge4611686018427387904
-unfolding head_refusal
-returns-else-h-ge4611686018427387904 c =
-    rw (← c.in_range.ensures, ← (wide-told c.before.before.before)) (search cases)
-
-pub returns-else-in_range : goal.returns-else-in_range
-unfolding head_refusal
-returns-else-in_range c = rw (← c.in_range.ensures) (search cases)
+returns c = rw (c.head.ensures, ← c.in_range.ensures) (search cases)

@@ -5,6 +5,3 @@ use Rattle.demap.proofs.levels.all_levels.Given as goal
 
 abbrev pub invariant-loop-b : goal.invariant-loop-b
 invariant-loop-b l = (l.b ≤ 5) × Stage (entry l.initial.m) l.bits l.k l.initial.out l.b l.m l.out
-
-abbrev pub decreases-loop-b : goal.decreases-loop-b
-decreases-loop-b l = l.b

@@ -1,4 +1,5 @@
 -- `demap::refusals::block` meets its contract. Assumes nothing.
+use Rattle.std.specs.Prelude.{Err}
 use mathlib.Core.Bool.{not, ◌||◌}
 use mathlib.Core.Path.{◌≡◌, refl, sym, ◌∙◌}
 use Prim.Native.Nat.{ℕ, ◌*◌, ◌^◌, ◌≤◌, ◌<◌}
@@ -10,11 +11,12 @@ use lib.IntN.{ℤ}
 use mir.Facts.{to_z-of_z}
 use Rattle.laws.proofs.Tests.{by_test}
 use Rattle.laws.specs.Choice.{if_yes, if_no}
+use Rattle.refusal.specs.declared.Refusal.TheVariants.{Points}
 use Rattle.demap.specs.Answers.{demap_refusal, block_refusal}
 use Rattle.demap.proofs.refusals.block.Goals as goal
 
 -- without bits any room will do, and the number of bits is refused
-none : (n bits len : ℕ) (k : ℤ) (room : ℕ) → bits ≡ 0 → 4 ≡ block_refusal n bits len k room
+none : (n bits len : ℕ) (k : ℤ) (room : ℕ) → bits ≡ 0 → Err Points ≡ block_refusal n bits len k room
 unfolding block_refusal demap_refusal
 none n bits len k room e =
     rw e

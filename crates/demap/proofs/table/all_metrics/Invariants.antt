@@ -1,5 +1,5 @@
 use mathlib.Core.Path.{◌≡◌}
-use Prim.Native.Nat.{ℕ, ◌-◌, ◌^◌, ◌≤◌, ◌<◌}
+use Prim.Native.Nat.{ℕ, ◌^◌, ◌≤◌, ◌<◌}
 use lib.ListN.{length}
 use Rattle.demap.specs.Folds.{label_by_twice, entry, Small}
 use Rattle.demap.proofs.table.all_metrics.Given as goal
@@ -8,6 +8,3 @@ use Rattle.demap.proofs.table.all_metrics.Given as goal
 abbrev pub invariant-loop-b : goal.invariant-loop-b
 invariant-loop-b l = let f = label_by_twice l.ti l.tq l.points in
     (l.b ≤ 5) × (length l.m ≡ 32) × ((u : ℕ) → u < 2 ^ l.b → u < 2 ^ l.bits → (entry l.m u ≡ f u) × Small (f u))
-
-abbrev pub decreases-loop-b : goal.decreases-loop-b
-decreases-loop-b l = 5 - l.b

@@ -7,11 +7,11 @@ use Rattle.demap_replay.proofs.call.read.Goals as goal
 
 pub returns-in-12 : goal.returns-in-12
 unfolding read_of
-returns-in-12 c = rw (c.in-12.is, c.single.ensures, c.of_i16.ensures)
+returns-in-12 c = rw (c.in-12.is, c.single.ensures, c.of.ensures)
 
 pub returns-in-13 : goal.returns-in-13
 unfolding read_of
-returns-in-13 c = rw (c.in-13.is, c.single-in-13.ensures, c.of_i16-in-13.ensures)
+returns-in-13 c = rw (c.in-13.is, c.single-in-13.ensures, c.of-in-13.ensures)
 
 pub returns-in-14 : goal.returns-in-14
 unfolding read_of

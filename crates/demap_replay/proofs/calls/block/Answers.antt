@@ -22,5 +22,5 @@ unfolding block_call
 returns c =
     let a = c.args in
     let n = c.least-c in
-    let e = rw (back w64 c.of_bits-k.result c.of_bits-k.type_inv, c.of_bits-k.ensures, c.index-bits.ensures, n.ensures.0, c.least-b.ensures.0, c.least-a.ensures.0, take_least _ a.learned.now, take_least _ a.nominal.now, take_least _ softs) at c.demap_block-n.ensures in
-    rw (c.soft.ensures, e.0, e.1, n.ensures.0, drop_least _ softs)
+    let e = rw (back w64 c.of_bits-k.result c.of_bits-k.type_inv, c.of_bits-k.ensures, c.index-bits.ensures, n.ensures.0, c.least-b.ensures.0, c.least-a.ensures.0, take_least _ a.learned.now, take_least _ a.nominal.now, take_least _ softs) at c.demap_block-r.ensures in
+    rw (c.soft.ensures, c.code.ensures, e.0, e.1, n.ensures.0, drop_least _ softs)

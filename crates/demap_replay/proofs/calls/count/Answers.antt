@@ -5,5 +5,5 @@ use Rattle.demap_replay.proofs.calls.count.Goals as goal
 pub returns : goal.returns
 unfolding count_call
 returns c =
-    let e = rw c.low32.ensures at c.count_put-n.ensures in
+    let e = rw c.of_bits.ensures at c.count_put-n.ensures in
     rw (c.turned.ensures, c.single.ensures, c.with_learn.ensures, e)

@@ -8,6 +8,6 @@ pub returns : goal.returns
 unfolding metric_call
 returns c =
     let m = c.metric-m in
-    let e = rw (back w16 c.signed16.result c.signed16.type_inv, c.signed16.ensures, back w16 c.signed16-2.result c.signed16-2.type_inv, c.signed16-2.ensures, back w16 c.signed16-3.result c.signed16-3.type_inv, c.signed16-3.ensures, back w16 c.signed16-4.result c.signed16-4.type_inv, c.signed16-4.ensures) at m.ensures in
+    let e = rw (back w16 c.of_bits.result c.of_bits.type_inv, c.of_bits.ensures, back w16 c.of_bits-2.result c.of_bits-2.type_inv, c.of_bits-2.ensures, back w16 c.of_bits-3.result c.of_bits-3.type_inv, c.of_bits-3.ensures, back w16 c.of_bits-4.result c.of_bits-4.type_inv, c.of_bits-4.ensures) at m.ensures in
     let x = rw (back w64 m.result m.type_inv, e) at c.to_bits.ensures in
     rw (c.single.ensures, x)

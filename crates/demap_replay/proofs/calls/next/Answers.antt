@@ -14,5 +14,5 @@ unfolding next_call next_left
 returns c =
     let a = c.args in
     let n = c.least-n in
-    let e = rw (c.low32.ensures, n.ensures.0, take_least _ a.learned.now) at c.next-r.ensures in
-    (rw (c.turned.ensures, c.single.ensures, c.with_force.ensures, e.0), rw (e.1, n.ensures.0, drop_least _ a.learned.now))
+    let e = rw (c.of_bits.ensures, n.ensures.0, take_least _ a.learned.now) at c.next-r.ensures in
+    (rw (c.renewed.ensures, e.0), rw (e.1, n.ensures.0, drop_least _ a.learned.now))

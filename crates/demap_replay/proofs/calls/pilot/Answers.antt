@@ -7,5 +7,5 @@ use Rattle.demap_replay.proofs.calls.pilot.Goals as goal
 pub returns : goal.returns
 unfolding pilot_call
 returns c =
-    let e = rw (back w16 c.signed16.result c.signed16.type_inv, c.signed16.ensures, back w16 c.signed16-2.result c.signed16-2.type_inv, c.signed16-2.ensures, c.index.ensures, c.index-2.ensures) at c.pilot-r.ensures in
-    rw (c.turned.ensures, c.single.ensures, c.with_learn.ensures, e)
+    let e = rw (back w16 c.of_bits.result c.of_bits.type_inv, c.of_bits.ensures, back w16 c.of_bits-2.result c.of_bits-2.type_inv, c.of_bits-2.ensures, c.index.ensures, c.index-2.ensures) at c.pilot-r.ensures in
+    rw (c.learned.ensures, e)

@@ -15,4 +15,4 @@ returns c =
     let a = c.args in
     let n = c.least-n in
     let e = rw (c.index.ensures, n.ensures.0, take_least _ a.learned.now) at c.points-r.ensures in
-    (rw (c.turned.ensures, c.single.ensures, c.flag.ensures, e.0), rw (e.1, n.ensures.0, drop_least _ a.learned.now))
+    (rw (c.turned.ensures, c.pointed.ensures, e.0), rw (e.1, n.ensures.0, drop_least _ a.learned.now))

@@ -8,4 +8,4 @@ pub overflow_cast-v : goal.overflow_cast-v
 overflow_cast-v c = fits w16 (arg c.ranges.v) tt
 
 pub returns : goal.returns
-returns c = rw (c.bits16.ensures, to_z-of_z (overflow_cast-v c.before), to_z-of_z c.ranges.v)
+returns c = rw (c.to_bits.ensures, to_z-of_z (overflow_cast-v c.before), to_z-of_z c.ranges.v)

@@ -6,11 +6,11 @@ use mir.Syntax.{w64}
 use mir.Val.{SFits}
 use Rattle.demap_replay.proofs.told.figure.Goals as goal
 
-pub returns-in-Value : goal.returns-in-Value
+pub returns-in-Some : goal.returns-in-Some
 unfolding figure_told
-returns-in-Value c =
-    let f : SFits w64 c.in-Value.v = search rules in
-    rw (c.in-Value.is, c.single.ensures, rw (to_z-of_z f) at c.to_bits.ensures)
+returns-in-Some c =
+    let f : SFits w64 c.in-Some.v = search rules in
+    rw (c.in-Some.is, c.single.ensures, rw (to_z-of_z f) at c.to_bits.ensures)
 
 pub returns-in-None : goal.returns-in-None
 unfolding figure_told

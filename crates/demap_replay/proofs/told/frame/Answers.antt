@@ -2,10 +2,10 @@
 use Rattle.demap_replay.specs.Told.{frame_of}
 use Rattle.demap_replay.proofs.told.frame.Goals as goal
 
-pub returns-in-Never : goal.returns-in-Never
+pub returns-in-None : goal.returns-in-None
 unfolding frame_of
-returns-in-Never c = rw c.in-Never.is
+returns-in-None c = rw c.in-None.is
 
-pub returns-in-Frame : goal.returns-in-Frame
+pub returns-in-Some : goal.returns-in-Some
 unfolding frame_of
-returns-in-Frame c = rw c.in-Frame.is
+returns-in-Some c = rw c.in-Some.is

@@ -13,12 +13,12 @@ train-requires c =
     let t : (c.args.e.opened && leb 11 c.args.e.filled) ≡ true = search in
     (c.requires.sums t, search rules)
 
-pub returns-then-opened-e : goal.returns-then-opened-e
+pub returns-then-e : goal.returns-then-e
 unfolding trained_eq trains_eq
-returns-then-opened-e c =
+returns-then-e c =
     let g = rw (to_z-of_z c.ranges.di, to_z-of_z c.ranges.dq) at c.train.ensures in
     rw (c.with_sums.ensures, g) (search cases)
 
-pub returns-else-opened-e : goal.returns-else-opened-e
+pub returns-else-e : goal.returns-else-e
 unfolding trained_eq trains_eq
-returns-else-opened-e c = search cases
+returns-else-e c = search cases

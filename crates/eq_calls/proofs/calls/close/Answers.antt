@@ -4,4 +4,4 @@ use Rattle.eq_calls.proofs.calls.close.Goals as goal
 
 pub returns : goal.returns
 unfolding close_call
-returns c = rw (c.turned.ensures, c.told-t.ensures, c.flag-f.ensures, c.close-r.ensures)
+returns c = rw (c.closed.ensures, c.close.ensures)

@@ -4,4 +4,4 @@ use Rattle.eq_calls.proofs.calls.keep.Goals as goal
 
 pub returns : goal.returns
 unfolding keep_call
-returns c = rw (c.plain.ensures, c.with_solver.ensures)
+returns c = rw c.plain.ensures

@@ -4,4 +4,4 @@ use Rattle.eq_calls.proofs.calls.load.Goals as goal
 
 pub returns : goal.returns
 unfolding load_call
-returns c = rw (c.plain.ensures, c.load-r.ensures, c.low32.ensures, c.sixteens-t.ensures)
+returns c = rw (c.answer.ensures, c.load.ensures, c.of_bits.ensures, c.parts.ensures)

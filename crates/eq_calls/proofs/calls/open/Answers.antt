@@ -4,4 +4,4 @@ use Rattle.eq_calls.proofs.calls.open.Goals as goal
 
 pub returns : goal.returns
 unfolding open_call
-returns c = rw (c.plain.ensures, c.open-r.ensures, c.low32.ensures)
+returns c = rw (c.answer.ensures, c.open.ensures, c.of_bits.ensures)

@@ -4,4 +4,4 @@ use Rattle.eq_calls.proofs.calls.output.Goals as goal
 
 pub returns : goal.returns
 unfolding output_call
-returns c = rw (c.turned.ensures, c.symbol_told-t.ensures, c.with_eq-n.ensures, c.output-r.ensures)
+returns c = rw (c.symbol.ensures, c.output.ensures)

@@ -4,4 +4,4 @@ use Rattle.eq_calls.proofs.calls.plain.Goals as goal
 
 pub returns : goal.returns
 unfolding plain
-returns c = rw (c.turned.ensures, c.told-t.ensures, c.with_eq-n.ensures)
+returns c = rw c.told.ensures

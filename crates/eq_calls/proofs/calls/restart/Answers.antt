@@ -4,4 +4,4 @@ use Rattle.eq_calls.proofs.calls.restart.Goals as goal
 
 pub returns : goal.returns
 unfolding restart_call
-returns c = rw (c.plain.ensures, c.restart-r.ensures)
+returns c = rw (c.answer.ensures, c.restart.ensures)

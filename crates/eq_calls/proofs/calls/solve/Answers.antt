@@ -4,4 +4,4 @@ use Rattle.eq_calls.proofs.calls.solve.Goals as goal
 
 pub returns : goal.returns
 unfolding solve_call
-returns c = rw (c.turned.ensures, c.solved-t.ensures, c.solve_sums-r.ensures)
+returns c = rw (c.solved.ensures, c.solve_sums.ensures)

@@ -6,4 +6,4 @@ use Rattle.eq_calls.proofs.calls.train.Goals as goal
 
 pub returns : goal.returns
 unfolding train_call
-returns c = rw (c.plain.ensures, c.train-r.ensures, back w16 c.signed16-2.result c.signed16-2.type_inv, back w16 c.signed16.result c.signed16.type_inv, c.signed16-2.ensures, c.signed16.ensures)
+returns c = rw (c.answer.ensures, c.train.ensures, back w16 c.of_bits-2.result c.of_bits-2.type_inv, back w16 c.of_bits.result c.of_bits.type_inv, c.of_bits-2.ensures, c.of_bits.ensures)

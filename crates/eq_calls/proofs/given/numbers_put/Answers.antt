@@ -4,4 +4,4 @@ use Rattle.eq_calls.proofs.given.numbers_put.Goals as goal
 
 pub returns : goal.returns
 unfolding numbers_put
-returns c = rw (c.low32-count.ensures, c.low32-frame.ensures, c.low32-filled.ensures, c.from_at-from.ensures)
+returns c = rw (c.from_at.ensures, c.of_bits.ensures, c.of_bits-2.ensures, c.of_bits-3.ensures)

@@ -2,10 +2,10 @@
 use Rattle.eq_calls.specs.Told.{from_shown}
 use Rattle.eq_calls.proofs.told.from_shown.Goals as goal
 
-pub returns-in-Identity : goal.returns-in-Identity
+pub returns-in-None : goal.returns-in-None
 unfolding from_shown
-returns-in-Identity c = rw c.in-Identity.is
+returns-in-None c = rw c.in-None.is
 
-pub returns-in-Frame : goal.returns-in-Frame
+pub returns-in-Some : goal.returns-in-Some
 unfolding from_shown
-returns-in-Frame c = rw c.in-Frame.is
+returns-in-Some c = rw c.in-Some.is

@@ -4,4 +4,4 @@ use Rattle.eq_calls.proofs.told.sums_shown.Goals as goal
 
 pub returns : goal.returns
 unfolding sums_shown
-returns c = rw (c.of_i64-b.ensures, c.of_i64-a.ensures)
+returns c = rw (c.of.ensures, c.of-2.ensures)

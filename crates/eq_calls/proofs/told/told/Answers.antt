@@ -4,4 +4,4 @@ use Rattle.eq_calls.proofs.told.told.Goals as goal
 
 pub returns : goal.returns
 unfolding told_of
-returns c = rw (c.flag-o.ensures, c.sums_shown-g.ensures, c.sums_shown-d.ensures, c.from_shown-c.ensures, c.of_i16-b.ensures, c.of_i16-a.ensures)
+returns c = rw (c.from_shown-from.ensures, c.sums_shown-open.ensures, c.sums_shown-solver.ensures, c.of.ensures, c.of-2.ensures, c.flag.ensures)

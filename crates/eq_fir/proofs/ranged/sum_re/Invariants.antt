@@ -1,10 +1,7 @@
-use Prim.Native.Nat.{◌-◌, ◌≤◌}
+use Prim.Native.Nat.{◌≤◌}
 use Rattle.eq_fir.proofs.Laws.{Summed}
 use Rattle.eq_fir.specs.Fir.{filtered}
 use Rattle.eq_fir.proofs.ranged.sum_re.Given as goal
 
 abbrev pub invariant-loop-k : goal.invariant-loop-k
 invariant-loop-k l = (l.k ≤ 11) × Summed (filtered l.taps l.line l.k).re l.k l.a
-
-abbrev pub decreases-loop-k : goal.decreases-loop-k
-decreases-loop-k l = 11 - l.k

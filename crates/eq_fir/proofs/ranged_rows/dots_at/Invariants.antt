@@ -1,4 +1,4 @@
-use Prim.Native.Nat.{◌-◌, ◌≤◌}
+use Prim.Native.Nat.{◌≤◌}
 use Rattle.eq_fir.proofs.Bytes.{Sum}
 use Rattle.eq_fir.specs.Rows.{padded}
 use lib.ListN.{drop}
@@ -6,6 +6,3 @@ use Rattle.eq_fir.proofs.ranged_rows.dots_at.Given as goal
 
 abbrev pub invariant-loop-k : goal.invariant-loop-k
 invariant-loop-k l = (l.k ≤ 24) × Sum (padded (drop l.at l.l)) l.rows 0 l.k l.a × Sum (padded (drop l.at l.l)) l.rows 24 l.k l.b × Sum (padded (drop l.at l.l)) l.rows 48 l.k l.c × Sum (padded (drop l.at l.l)) l.rows 72 l.k l.d
-
-abbrev pub decreases-loop-k : goal.decreases-loop-k
-decreases-loop-k l = 24 - l.k

@@ -1,4 +1,4 @@
-use Prim.Native.Nat.{◌-◌, ◌≤◌}
+use Prim.Native.Nat.{◌≤◌}
 use Rattle.eq_fir.specs.Fir.{nth}
 use Rattle.laws.specs.Ranges.{firsts}
 use lib.IntN.{pos}
@@ -9,6 +9,3 @@ use Rattle.eq_fir.proofs.ranged_rows.pad.Given as goal
 
 abbrev pub invariant-loop-k : goal.invariant-loop-k
 invariant-loop-k l = (l.k ≤ 22) × (l.r ≡ firsts (nth l.l) l.k ++ drop l.k (replicate 24 (pos 0)))
-
-abbrev pub decreases-loop-k : goal.decreases-loop-k
-decreases-loop-k l = 22 - l.k

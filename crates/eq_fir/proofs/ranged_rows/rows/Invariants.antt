@@ -1,4 +1,4 @@
-use Prim.Native.Nat.{◌-◌, ◌/◌, ◌%◌, ◌<◌, ◌≤◌, ℕ}
+use Prim.Native.Nat.{◌/◌, ◌%◌, ◌<◌, ◌≤◌, ℕ}
 use Rattle.eq_fir.specs.Rows.{factor_at}
 use Rattle.laws.specs.Ranges.{firsts}
 use lib.Dec.{eqb, leb}
@@ -14,6 +14,3 @@ entry t j = factor_at t (leb 48 j) (eqb (j / 24 % 2) 0) (j % 24)
 
 abbrev pub invariant-loop-j : goal.invariant-loop-j
 invariant-loop-j l = (l.j ≤ 96) × (l.r ≡ firsts (entry l.t) l.j ++ drop l.j (replicate 96 (pos 0))) × ((i : ℕ) → i < l.j → nat_abs (entry l.t i) ≤ 255)
-
-abbrev pub decreases-loop-j : goal.decreases-loop-j
-decreases-loop-j l = 96 - l.j

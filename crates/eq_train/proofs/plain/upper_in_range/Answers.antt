@@ -17,9 +17,6 @@ row_in_range-one-requires c =
 pub overflow_add-at : goal.overflow_add-at
 overflow_add-at c = let L = c.loop-r in record { fits = omega (arith, L.invariant.1, row_in L.r c.loop-r-test.true) }
 
-pub loop-r-smaller : goal.loop-r-smaller
-loop-r-smaller c = omega (arith, c.loop-r-test.true)
-
 pub loop-r-preserved : goal.loop-r-preserved
 loop-r-preserved c =
     let L = c.loop-r in

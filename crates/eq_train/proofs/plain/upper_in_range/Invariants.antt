@@ -7,6 +7,3 @@ use Rattle.eq_train.proofs.plain.upper_in_range.Given as goal
 
 abbrev pub invariant-loop-r : goal.invariant-loop-r
 invariant-loop-r l = (l.r ≤ 11) × (l.at ≡ 2 * upper_at l.r l.r) × ((l.all && upper_in_range l.n l.s l.r (11 - l.r)) ≡ upper_in_range l.n l.s 0 11)
-
-abbrev pub decreases-loop-r : goal.decreases-loop-r
-decreases-loop-r l = 11 - l.r

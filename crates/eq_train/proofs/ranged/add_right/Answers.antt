@@ -35,9 +35,6 @@ plus-requires-in-loop-r c =
     let a = (room_step x L.invariant.1).small (2 * L.r + 1) (omega arith) (omega (arith, c.loop-r-test.true)) in
     rw (held (nth (set L.p (2 * L.r) x) (2 * L.r + 1)) a, held v.result.im (omega (arith, v.ensures.2))) (a, v.ensures.2)
 
-pub loop-r-smaller : goal.loop-r-smaller
-loop-r-smaller c = omega (arith, c.loop-r-test.true)
-
 pub loop-r-preserved : goal.loop-r-preserved
 unfolding right_product
 loop-r-preserved c =

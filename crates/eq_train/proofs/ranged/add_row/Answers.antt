@@ -32,9 +32,6 @@ plus-requires-in-loop-c c =
     let a = m.small (L.k + 1) (omega arith) (omega (arith, L.invariant.1, c.loop-c-test.true)) in
     rw (held (nth s (L.k + 1)) a, held v.result.im (omega (arith, v.ensures.2))) (a, v.ensures.2)
 
-pub loop-c-smaller : goal.loop-c-smaller
-loop-c-smaller c = omega (arith, c.loop-c-test.true)
-
 pub loop-c-preserved : goal.loop-c-preserved
 unfolding line_product
 loop-c-preserved c =

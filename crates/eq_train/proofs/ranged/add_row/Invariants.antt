@@ -6,6 +6,3 @@ use Rattle.eq_train.proofs.ranged.add_row.Given as goal
 
 abbrev pub invariant-loop-c : goal.invariant-loop-c
 invariant-loop-c l = (l.c ≤ 11) × (l.k + 2 * (11 - l.c) ≤ 132) × (Room l.s l.k 132) × (added_from l.s l.k (row_products l.line l.r l.c (11 - l.c)) ≡ added_from l.initial.s l.at (row_products l.line l.r l.r (11 - l.r)))
-
-abbrev pub decreases-loop-c : goal.decreases-loop-c
-decreases-loop-c l = 11 - l.c

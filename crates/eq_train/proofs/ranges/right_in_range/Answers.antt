@@ -11,9 +11,6 @@ use Rattle.eq_train.proofs.ranges.right_in_range.Goals as goal
 pub loop-r-init : goal.loop-r-init
 loop-r-init c = (omega arith, refl)
 
-pub loop-r-smaller : goal.loop-r-smaller
-loop-r-smaller c = omega (arith, c.loop-r-test.true)
-
 pub loop-r-preserved : goal.loop-r-preserved
 loop-r-preserved c =
     let S = c.args in

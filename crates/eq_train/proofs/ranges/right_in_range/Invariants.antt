@@ -6,6 +6,3 @@ use Rattle.eq_train.proofs.ranges.right_in_range.Given as goal
 
 abbrev pub invariant-loop-r : goal.invariant-loop-r
 invariant-loop-r l = (l.r ≤ 11) × ((l.all && right_in_range l.n l.p l.r (11 - l.r)) ≡ right_in_range l.n l.p 0 11)
-
-abbrev pub decreases-loop-r : goal.decreases-loop-r
-decreases-loop-r l = 11 - l.r

@@ -28,9 +28,6 @@ loop-c-init c =
       row_one c.args.n s r r c.diagonal_in_range-all.result c.requires.0 (f ∙ sym (diagonal_entry c.args.n s r)),
     )
 
-pub loop-c-smaller : goal.loop-c-smaller
-loop-c-smaller c = omega (arith, c.loop-c-test.true)
-
 pub loop-c-preserved : goal.loop-c-preserved
 loop-c-preserved c =
     let S = c.args in

@@ -12,14 +12,14 @@ use Rattle.frame_line.proofs.ranged.gap.Goals as goal
 pub overflow_add-result : goal.overflow_add-result
 unfolding last_in_range
 overflow_add-result c =
-    let a = c.in-At.a in
-    let h : ltb a (2 ^ 62) ≡ true = rw c.in-At.is at c.requires in
+    let a = c.in-Some.a in
+    let h : ltb a (2 ^ 62) ≡ true = rw c.in-Some.is at c.requires in
     record { fits = omega (arith, ltb-true a (2 ^ 62) h) }
 
-pub returns-in-Never : goal.returns-in-Never
+pub returns-in-None : goal.returns-in-None
 unfolding gap_at
-returns-in-Never c = rw c.in-Never.is
+returns-in-None c = rw c.in-None.is
 
-pub returns-in-At : goal.returns-in-At
+pub returns-in-Some : goal.returns-in-Some
 unfolding gap_at
-returns-in-At c = rw c.in-At.is
+returns-in-Some c = rw c.in-Some.is

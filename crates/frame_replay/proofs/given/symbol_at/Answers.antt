@@ -5,4 +5,4 @@ use Rattle.frame_replay.proofs.given.symbol_at.Goals as goal
 
 pub returns : goal.returns
 unfolding symbol_of
-returns c = rw (to_z-of_z (record { sfits = c.signed16.type_inv }), to_z-of_z (record { sfits = c.signed16-2.type_inv }), c.signed16.ensures, c.signed16-2.ensures)
+returns c = rw (to_z-of_z (record { sfits = c.of_bits.type_inv }), to_z-of_z (record { sfits = c.of_bits-2.type_inv }), c.of_bits.ensures, c.of_bits-2.ensures)

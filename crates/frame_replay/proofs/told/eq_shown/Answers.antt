@@ -4,4 +4,4 @@ use Rattle.frame_replay.proofs.told.eq_shown.Goals as goal
 
 pub returns : goal.returns
 unfolding eq_shown
-returns c = rw (c.sums_shown-d.ensures, c.flag-o.ensures, c.from_shown-c.ensures, c.of_i16-b.ensures, c.of_i16-a.ensures)
+returns c = rw (c.sums_shown-d.ensures, c.flag-o.ensures, c.from_shown-c.ensures, c.of-b.ensures, c.of-a.ensures)

@@ -8,8 +8,8 @@ use Rattle.fx.proofs.ranged.mag_approx.Tie as tie
 use Rattle.fx.proofs.ranged.mag_approx.Reads as reads
 use Rattle.fx.proofs.ranged.mag_approx.Goals as goal
 
-sizes : (c : (lts.After-size2 tie.the-claims reads.Pre reads.Post)) → (c.size-a.result ≡ nat_abs c.args.re) × (c.size-b.result ≡ nat_abs c.args.im)
-sizes c = (rw (to_z-of_z c.ranges.re) at c.size-a.ensures, rw (to_z-of_z c.ranges.im) at c.size-b.ensures)
+sizes : (c : (lts.After-unsigned_abs2 tie.the-claims reads.Pre reads.Post tie.handed_clauses)) → (c.unsigned_abs-a.result ≡ nat_abs c.args.re) × (c.unsigned_abs-b.result ≡ nat_abs c.args.im)
+sizes c = (rw (to_z-of_z c.ranges.re) at c.unsigned_abs-a.ensures.value, rw (to_z-of_z c.ranges.im) at c.unsigned_abs-b.ensures.value)
 
 pub overflow_add-result : goal.overflow_add-result
 overflow_add-result c = omega (arith, sizes c.before)

@@ -4,4 +4,4 @@ use Rattle.fx.proofs.sizes.outside2.Goals as goal
 
 pub returns : goal.returns
 returns c =
-    ap₂ (λ (m n : ℕ). leb (2 ^ 22) m || leb (2 ^ 22) n) (rw (to_z-of_z c.ranges.a) at c.size.ensures) (rw (to_z-of_z c.ranges.b) at c.size-2.ensures)
+    ap₂ (λ (m n : ℕ). leb (2 ^ 22) m || leb (2 ^ 22) n) (rw (to_z-of_z c.ranges.a) at c.unsigned_abs.ensures.value) (rw (to_z-of_z c.ranges.b) at c.unsigned_abs-2.ensures.value)

@@ -35,4 +35,4 @@ loop-s-preserved c =
 pub returns : goal.returns
 returns c =
     let e : c.loop-s.s ≡ 39 = omega arith in
-    (e ∙ sym (first-none (does c.before.before) 39) ∙ (rw e at c.loop-s.invariant.1) ∙ found c.before.before, c.loop-s.invariant.0)
+    (sym (first-none (does c.before.before) 39) ∙ (rw e at c.loop-s.invariant.1) ∙ found c.before.before, omega arith)

@@ -5,6 +5,3 @@ use Rattle.fx.proofs.turns.least_shift.Given as goal
 
 abbrev pub invariant-loop-s : goal.invariant-loop-s
 invariant-loop-s l = (l.s ≤ 39) × (first_from (under_at l.re l.im) (39 - l.s) l.s ≡ first_from (under_at l.re l.im) 39 0)
-
-abbrev pub decreases-loop-s : goal.decreases-loop-s
-decreases-loop-s l = 39 - l.s

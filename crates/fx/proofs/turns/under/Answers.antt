@@ -9,5 +9,5 @@ unfolding under_at
 returns c =
     let m = 2 ^ c.args.s in
     ap₂ (λ (p q : ℕ). ltb p (2 ^ 22) && ltb q (2 ^ 22))
-    (rw (to_z-of_z c.ranges.re, to_z-of_z (sfits_shr m c.ranges.re)) at c.size.ensures)
-    (rw (to_z-of_z c.ranges.im, to_z-of_z (sfits_shr m c.ranges.im)) at c.size-2.ensures)
+    (rw (to_z-of_z c.ranges.re, to_z-of_z (sfits_shr m c.ranges.re)) at c.unsigned_abs.ensures.value)
+    (rw (to_z-of_z c.ranges.im, to_z-of_z (sfits_shr m c.ranges.im)) at c.unsigned_abs-2.ensures.value)

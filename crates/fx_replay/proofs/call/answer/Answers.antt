@@ -17,7 +17,7 @@ wide z a f e = to_z-of_z f ∙ e
 
 pub returns-in-0 : goal.returns-in-0
 unfolding answer_of
-returns-in-0 c = rw (c.in-0.is, c.single.ensures, rw (wide _ _ (record { sfits = c.of_bits-x.type_inv }) c.of_bits-x.ensures, c.low32.ensures) at c.sv_round_shift.ensures)
+returns-in-0 c = rw (c.in-0.is, c.single.ensures, rw (wide _ _ (record { sfits = c.of_bits-x.type_inv }) c.of_bits-x.ensures, c.of_bits.ensures) at c.sv_round_shift.ensures)
 
 pub returns-in-1 : goal.returns-in-1
 unfolding answer_of
@@ -45,15 +45,15 @@ returns-in-6 c = rw (c.in-6.is, rw (wide _ _ (record { sfits = c.of_bits-x.type_
 
 pub returns-in-7 : goal.returns-in-7
 unfolding answer_of
-returns-in-7 c = rw (c.in-7.is, to_z-of_z {w = w64} (record { sfits = c.sv_signed_angle.type_inv }), rw c.low32-in-7.ensures at c.sv_signed_angle.ensures)
+returns-in-7 c = rw (c.in-7.is, to_z-of_z {w = w64} (record { sfits = c.sv_signed_angle.type_inv }), rw c.of_bits-in-7.ensures at c.sv_signed_angle.ensures)
 
 pub returns-in-8 : goal.returns-in-8
 unfolding answer_of
-returns-in-8 c = rw (c.in-8.is, rw c.low32-in-8.ensures at c.sv_cos_sin_trunc.ensures)
+returns-in-8 c = rw (c.in-8.is, rw c.of_bits-in-8.ensures at c.sv_cos_sin_trunc.ensures)
 
 pub returns-in-9 : goal.returns-in-9
 unfolding answer_of
-returns-in-9 c = rw (c.in-9.is, rw c.low32-in-9.ensures at c.sv_cos_sin_round.ensures)
+returns-in-9 c = rw (c.in-9.is, rw c.of_bits-in-9.ensures at c.sv_cos_sin_round.ensures)
 
 pub returns-in-10 : goal.returns-in-10
 unfolding answer_of

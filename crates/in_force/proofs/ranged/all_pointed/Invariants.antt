@@ -1,7 +1,7 @@
 use mathlib.Core.Bool.{false}
 use mathlib.Core.List.{◌++◌}
 use mathlib.Core.Path.{◌≡◌}
-use Prim.Native.Nat.{ℕ, ◌+◌, ◌-◌, ◌≤◌}
+use Prim.Native.Nat.{ℕ, ◌+◌, ◌≤◌}
 use lib.ListN.{length, drop, replicate}
 use Rattle.laws.specs.Ranges.{firsts}
 use Rattle.learn.specs.Learning.{set_learned}
@@ -9,8 +9,5 @@ use Rattle.in_force.specs.InForce.{slices_learned}
 use Rattle.in_force.proofs.ranged.all_pointed.Given as goal
 
 abbrev pub invariant-loop-i : goal.invariant-loop-i
-invariant-loop-i l = (l.i ≤ 5) × (l.flags ≡ firsts (λ (b : ℕ). set_learned l.l (b + 1)) l.i ++ drop l.i (replicate 5 false)) × (l.learned ≡ slices_learned l.l l.i l.initial.learned)
+invariant-loop-i l = (l.i ≤ 5) × (l.flag-items ≡ firsts (λ (b : ℕ). set_learned l.l (b + 1)) l.i ++ drop l.i (replicate 5 false)) × (l.learned ≡ slices_learned l.l l.i l.initial.learned)
     × (length l.learned ≡ 124)
-
-abbrev pub decreases-loop-i : goal.decreases-loop-i
-decreases-loop-i l = 5 - l.i

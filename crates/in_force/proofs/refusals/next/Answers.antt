@@ -3,18 +3,18 @@ use Rattle.laws.specs.Choice.{cases}
 use Rattle.in_force.specs.Answers.{next_refusal}
 use Rattle.in_force.proofs.refusals.next.Goals as goal
 
-pub returns-then-in_range-2 : goal.returns-then-in_range-2
+pub returns-then-len-ne124 : goal.returns-then-len-ne124
 unfolding next_refusal
-returns-then-in_range-2 c = rw (← c.in_range.ensures, ← c.in_range-then-in_range.ensures) (search cases)
+returns-then-len-ne124 c = search cases
 
-pub returns-else-in_range-2 : goal.returns-else-in_range-2
+pub returns-then-not-in_range : goal.returns-then-not-in_range
 unfolding next_refusal
-returns-else-in_range-2 c = rw (← c.in_range.ensures, ← c.in_range-then-in_range.ensures) (search cases)
+returns-then-not-in_range c = rw (← c.in_range.ensures) (search cases)
 
-pub returns-else-in_range : goal.returns-else-in_range
+pub returns-then-not-in_range-2 : goal.returns-then-not-in_range-2
 unfolding next_refusal
-returns-else-in_range c = rw (← c.in_range.ensures) (search cases)
+returns-then-not-in_range-2 c = rw (← c.in_range.ensures, ← c.in_range-2.ensures) (search cases)
 
-pub returns-else-len-eq124 : goal.returns-else-len-eq124
+pub returns : goal.returns
 unfolding next_refusal
-returns-else-len-eq124 c = search cases
+returns c = rw (← c.in_range.ensures, ← c.in_range-2.ensures) (search cases)

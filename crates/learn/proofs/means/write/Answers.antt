@@ -1,5 +1,5 @@
 -- `learn::means::write` meets its contract. Assumes nothing.
-use mathlib.Core.List.{append-nil}
+use mathlib.Core.List.{List, append-nil}
 use mathlib.Core.Path.{◌≡◌, refl, ◌∙◌}
 use Prim.Native.Nat.{ℕ, ◌+◌}
 use native.Mathlib.Nat.{le_refl}
@@ -11,14 +11,11 @@ use Rattle.laws.proofs.Lists.{firsts-step, length-fill}
 use Rattle.laws.proofs.Size.{back}
 use Rattle.laws.specs.Ranges.{firsts}
 use Rattle.learn.specs.Learning.{sum_at, mean_at}
-use Rattle.learn.proofs.means.write.Lts as lts
-use Rattle.learn.proofs.means.write.Tie as tie
-use Rattle.learn.proofs.means.write.Reads as reads
 use Rattle.learn.proofs.means.write.Goals as goal
 
 -- the means from number s on
-abbrev means : (lts.Start tie.the-claims reads.Pre reads.Post goal.the-invariant-loop-i goal.the-decreases-loop-i) → ℕ → ℤ
-means S j = mean_at S.args.sum.now S.args.count.now (S.args.s + j)
+abbrev means : List ℤ → List ℕ → ℕ → ℕ → ℤ
+means sum count s j = mean_at sum count (s + j)
 
 pub loop-i-init : goal.loop-i-init
 unfolding firsts
@@ -29,11 +26,6 @@ mean-requires c =
     let i = c.loop-i.i in
     rw (back w64 (sum_at c.args.sum.now (c.args.s + i)) c.mean-arg-1.given) (c.requires.1 (c.args.s + i) (omega arith), c.requires.2 i (omega arith))
 
-pub bounds-out-i : goal.bounds-out-i
-bounds-out-i c =
-    let L = c.loop-i in
-    rw (L.invariant.1, length-fill (means c.before.before.before.before.before.before.before) c.args.out.now L.i L.invariant.0) (omega arith)
-
 pub loop-i-preserved : goal.loop-i-preserved
 unfolding mean_at
 loop-i-preserved c =
@@ -41,17 +33,17 @@ loop-i-preserved c =
     let e = rw (back w64 (sum_at c.args.sum.now (c.args.s + L.i)) c.mean-arg-1.given) at c.mean.ensures in (
       omega arith,
       rw (L.invariant.1, back w16 c.mean.result c.mean.type_inv)
-          (firsts-step (means c.before.before.before.before.before.before.before) c.args.out.now L.i c.mean.result e (omega arith)),
+          (firsts-step (means c.args.sum.now c.args.count.now c.args.s) c.args.out.now L.i c.mean.result e (omega arith)),
     )
 
 pub shape_of-out : goal.shape_of-out
 shape_of-out c =
     let L = c.loop-i in
-    rw L.invariant.1 (length-fill (means c.before.before) c.args.out.now L.i L.invariant.0)
+    rw L.invariant.1 (length-fill (means c.args.sum.now c.args.count.now c.args.s) c.args.out.now L.i L.invariant.0)
 
 pub returns : goal.returns
 returns c =
     let L = c.loop-i in
     let o = c.args.out.now in
     let e : L.i ≡ length o = omega arith in
-    (rw e at L.invariant.1) ∙ rw (drop_of_length-le o {i = length o} (le_refl (length o))) (append-nil (firsts (means c.before.before) (length o)))
+    (rw e at L.invariant.1) ∙ rw (drop_of_length-le o {i = length o} (le_refl (length o))) (append-nil (firsts (means c.args.sum.now c.args.count.now c.args.s) (length o)))

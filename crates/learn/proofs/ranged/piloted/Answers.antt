@@ -1,43 +1,38 @@
 -- `learn::ranged::piloted` meets its contract. Assumes nothing.
-use Prim.Native.Nat.{◌+◌, ◌*◌, ◌^◌, ◌≤◌}
-use native.Mathlib.Omega.{arith}
-use lib.IntN.{ℤ, nat_abs, ◌+ℤ◌}
+use Rattle.std.proofs.Common.{◌≡◌, ◌≢◌, ℕ, ◌+◌, ◌*◌, ◌^◌, ◌<◌, List, get_or, set, ℤ, pos, ◌+ℤ◌, refl, get_or-set_other, arith}
 use mir.Syntax.{w16, w64}
 use mir.Val.{SFits, to_z, of_z}
-use Rattle.laws.proofs.Size.{Num, arg, at, fits, num, plus, back}
+use Rattle.laws.proofs.Size.{Num, arg, at, fits, num, plus}
 use Rattle.learn.specs.Learning.{sum_at, piloted_at}
-use Rattle.learn.proofs.ranged.piloted.Lts as lts
-use Rattle.learn.proofs.ranged.piloted.Reads as reads
+use Rattle.learn.specs.Ranges.{LearnOk}
+use Rattle.learn.specs.declared.Learn.{Learn}
 use Rattle.learn.proofs.ranged.piloted.Goals as goal
 
 -- a sum with one more 16-bit number
-more : (s z : ℤ) → nat_abs s ≤ 2 ^ 41 → SFits w16 z → Num (to_z w64 (of_z w64 s) +ℤ to_z w64 (of_z w64 (to_z w16 (of_z w16 z)))) (s +ℤ z) (2 ^ 41 + 2 ^ 15)
-more s z h k = plus (at w64 (num s (2 ^ 41) h) tt) (at w64 (arg k) tt)
+more : (l : Learn) (i : ℕ) (z : ℤ) → LearnOk l → i < 124 → SFits w16 z →
+    Num (to_z w64 (of_z w64 (sum_at l.sum i)) +ℤ to_z w64 (of_z w64 (to_z w16 (of_z w16 z)))) (sum_at l.sum i +ℤ z) (2 ^ 41 + 2 ^ 15)
+more l i z ok h k = plus (at w64 (num (sum_at l.sum i) (2 ^ 41) (ok.sums i h)) tt) (at w64 (arg k) tt)
 
--- the two new sums
-module _ (S : (lts.Start reads.Pre reads.Post)) where
-  more-i : Num (to_z w64 (of_z w64 (sum_at S.args.l.sum (2 * S.args.a))) +ℤ to_z w64 (of_z w64 (to_z w16 (of_z w16 S.args.zi))))
-      (sum_at S.args.l.sum (2 * S.args.a) +ℤ S.args.zi) (2 ^ 41 + 2 ^ 15)
-  more-i = more (sum_at S.args.l.sum (2 * S.args.a)) S.args.zi (S.requires.0.sums (2 * S.args.a) (omega arith)) S.ranges.zi
+-- the first of the two is not the second
+apart : (s : List ℤ) (a : ℕ) (x : ℤ) → get_or (set s (2 * a) x) (2 * a + 1) (pos 0) ≡ get_or s (2 * a + 1) (pos 0)
+apart s a x = let ne : 2 * a + 1 ≢ 2 * a = omega arith in rw get_or-set_other refl
 
-  more-q : Num (to_z w64 (of_z w64 (sum_at S.args.l.sum (2 * S.args.a + 1))) +ℤ to_z w64 (of_z w64 (to_z w16 (of_z w16 S.args.zq))))
-      (sum_at S.args.l.sum (2 * S.args.a + 1) +ℤ S.args.zq) (2 ^ 41 + 2 ^ 15)
-  more-q = more (sum_at S.args.l.sum (2 * S.args.a + 1)) S.args.zq (S.requires.0.sums (2 * S.args.a + 1) (omega arith)) S.ranges.zq
+pub overflow_cast-l : goal.overflow_cast-l
+overflow_cast-l c = fits w64 (arg c.ranges.zi) tt
 
-pub overflow_cast-si : goal.overflow_cast-si
-overflow_cast-si c = fits w64 (arg c.ranges.zi) tt
+pub overflow_add-l : goal.overflow_add-l
+overflow_add-l c = fits w64 (more c.args.l (2 * c.args.a) c.args.zi c.requires.0 (omega arith) c.ranges.zi) tt
 
-pub overflow_add-si : goal.overflow_add-si
-overflow_add-si c = fits w64 (more-i c.before.before.before) tt
+pub overflow_cast-l-2 : goal.overflow_cast-l-2
+overflow_cast-l-2 c = fits w64 (arg c.ranges.zq) tt
 
-pub overflow_cast-sq : goal.overflow_cast-sq
-overflow_cast-sq c = fits w64 (arg c.ranges.zq) tt
-
-pub overflow_add-sq : goal.overflow_add-sq
-overflow_add-sq c = fits w64 (more-q c.before.before.before.before) tt
+pub overflow_add-l-2 : goal.overflow_add-l-2
+overflow_add-l-2 c =
+    rw (apart c.args.l.sum c.args.a _) (fits w64 (more c.args.l (2 * c.args.a + 1) c.args.zq c.requires.0 (omega arith) c.ranges.zq) tt)
 
 pub returns : goal.returns
 unfolding piloted_at
 returns c =
-    let l = c.args.l in
-    rw ((at w64 (more-i c.before.before.before.before.before) tt).is, (at w64 (more-q c.before.before.before.before.before) tt).is, back w64 l.noise c.struct_told-1.given.1.1.0.1)
+    let i = at w64 (more c.args.l (2 * c.args.a) c.args.zi c.requires.0 (omega arith) c.ranges.zi) tt in
+    let q = at w64 (more c.args.l (2 * c.args.a + 1) c.args.zq c.requires.0 (omega arith) c.ranges.zq) tt in
+    rw (apart c.args.l.sum c.args.a _, i.is, q.is)

@@ -1,16 +1,15 @@
 -- `learn::ranges::counts_in_range` meets its contract. Assumes nothing.
-use mathlib.Core.Path.{◌≡◌, sym}
-use native.Mathlib.Omega.{arith}
+use Rattle.std.proofs.Common.{◌≡◌, ◌≤◌, ◌↔◌, true, leb, EachIndex, get_or, le-leb, leb-true, rules}
+use Rattle.learn.specs.Learning.{count_at}
 use Rattle.learn.specs.Ranges.{counts_in_range}
-use Rattle.learn.proofs.Laws.{all_none, all_step}
+use Rattle.learn.proofs.Laws.{tested}
 use Rattle.learn.proofs.ranges.counts_in_range.Goals as goal
-
-pub loop-i-init : goal.loop-i-init
-loop-i-init c = (omega arith, all_none _)
-
-pub loop-i-preserved : goal.loop-i-preserved
-loop-i-preserved c = let L = c.loop-i in (omega arith, rw L.invariant.1 (sym (all_step _ L.i)))
 
 pub returns : goal.returns
 unfolding counts_in_range
-returns c = let e : c.loop-i.i ≡ 62 = omega arith in rw e at c.loop-i.invariant.1
+returns c =
+    let x = c.args.count.now in
+    let h : (c.all.result ≡ true) ↔ EachIndex x (λ k. get_or x k 0 ≤ 67108864) = search rules in
+    tested c.all.result (λ k. leb (count_at x k) 67108864) 62
+    (λ t k l. le-leb (get_or x k 0) 67108864 (h.0 t k (rw c.told-count l)))
+    (λ f. h.1 (λ k l. leb-true (get_or x k 0) 67108864 (f k (rw c.told-count at l))))

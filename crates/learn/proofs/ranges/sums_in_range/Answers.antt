@@ -1,23 +1,17 @@
 -- `learn::ranges::sums_in_range` meets its contract. Assumes nothing.
-use mathlib.Core.Path.{◌≡◌, sym}
-use Prim.Native.Nat.{ℕ}
-use native.Mathlib.Omega.{arith}
-use mir.Syntax.{w64}
-use Rattle.laws.proofs.Size.{back}
+use Rattle.std.proofs.Common.{◌≡◌, ◌↔◌, true, ◌&&◌, EachIndex, get_or, pos, rules}
+use lib.Signed.{le_z}
+use Rattle.laws.specs.Choice.{minus}
 use Rattle.learn.specs.Learning.{sum_at}
 use Rattle.learn.specs.Ranges.{sum_in_range, sums_in_range}
-use Rattle.learn.proofs.Laws.{all_none, all_step}
+use Rattle.learn.proofs.Laws.{tested}
 use Rattle.learn.proofs.ranges.sums_in_range.Goals as goal
 
-pub loop-i-init : goal.loop-i-init
-loop-i-init c = (omega arith, all_none _)
-
-pub loop-i-preserved : goal.loop-i-preserved
-unfolding sum_in_range
-loop-i-preserved c =
-    let L = c.loop-i in
-    (omega arith, rw (back w64 (sum_at c.args.sum.now L.i) c.z-1.given, L.invariant.1) (sym (all_step (λ (j : ℕ). sum_in_range (sum_at c.args.sum.now j)) L.i)))
-
 pub returns : goal.returns
-unfolding sums_in_range
-returns c = let e : c.loop-i.i ≡ 124 = omega arith in rw e at c.loop-i.invariant.1
+unfolding sums_in_range sum_in_range
+returns c =
+    let x = c.args.sum.now in
+    let h : (c.all.result ≡ true) ↔ EachIndex x (λ k. (le_z (minus 2199023255552) (get_or x k (pos 0)) && le_z (get_or x k (pos 0)) (pos 2198956146688)) ≡ true) = search rules in
+    tested c.all.result (λ k. sum_in_range (sum_at x k)) 124
+    (λ t k l. h.0 t k (rw c.told-sum l))
+    (λ f. h.1 (λ k l. f k (rw c.told-sum at l)))

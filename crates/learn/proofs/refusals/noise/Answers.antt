@@ -4,6 +4,10 @@ use Rattle.laws.specs.Choice.{cases}
 use Rattle.learn.specs.Answers.{noise_refusal}
 use Rattle.learn.proofs.refusals.noise.Goals as goal
 
+pub returns-then-not-in_range : goal.returns-then-not-in_range
+unfolding noise_refusal
+returns-then-not-in_range c = rw (← c.in_range.ensures) (search cases)
+
 pub returns-then-best : goal.returns-then-best
 unfolding noise_refusal
 returns-then-best c =
@@ -16,12 +20,8 @@ returns-then-l-ge67108864 c =
     let t = rw (to_z-of_z c.ranges.best) at c.if-best.false in
     rw (← c.in_range.ensures) (search cases)
 
-pub returns-else-l-ge67108864 : goal.returns-else-l-ge67108864
+pub returns : goal.returns
 unfolding noise_refusal
-returns-else-l-ge67108864 c =
+returns c =
     let t = rw (to_z-of_z c.ranges.best) at c.if-best.false in
     rw (← c.in_range.ensures) (search cases)
-
-pub returns-else-in_range : goal.returns-else-in_range
-unfolding noise_refusal
-returns-else-in_range c = rw (← c.in_range.ensures) (search cases)

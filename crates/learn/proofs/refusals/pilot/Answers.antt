@@ -11,18 +11,18 @@ pub returns-then-bits : goal.returns-then-bits
 unfolding pilot_refusal
 returns-then-bits c = search cases
 
+pub returns-then-not-in_range : goal.returns-then-not-in_range
+unfolding pilot_refusal
+returns-then-not-in_range c = rw (← c.in_range.ensures) (search cases)
+
 pub returns-then-t-gt31 : goal.returns-then-t-gt31
 unfolding pilot_refusal
 returns-then-t-gt31 c = rw (← c.in_range.ensures) (search cases)
 
-pub returns-then-c-ge67108864 : goal.returns-then-c-ge67108864
+pub returns-then-l-place-ge67108864 : goal.returns-then-l-place-ge67108864
 unfolding pilot_refusal
-returns-then-c-ge67108864 c = rw (← c.in_range.ensures, ← c.place.ensures.0) (search cases)
+returns-then-l-place-ge67108864 c = rw (← c.in_range.ensures, ← c.place.ensures.0) (search cases)
 
-pub returns-else-c-ge67108864 : goal.returns-else-c-ge67108864
+pub returns : goal.returns
 unfolding pilot_refusal
-returns-else-c-ge67108864 c = rw (← c.in_range.ensures, ← c.place.ensures.0) (search cases)
-
-pub returns-else-in_range : goal.returns-else-in_range
-unfolding pilot_refusal
-returns-else-in_range c = rw (← c.in_range.ensures) (search cases)
+returns c = rw (← c.in_range.ensures, ← c.place.ensures.0) (search cases)

@@ -7,10 +7,10 @@ pub returns-then-len-bits : goal.returns-then-len-bits
 unfolding points_refusal
 returns-then-len-bits c = search cases
 
-pub returns-then-in_range : goal.returns-then-in_range
+pub returns-then-not-in_range : goal.returns-then-not-in_range
 unfolding points_refusal
-returns-then-in_range c = rw (← c.in_range.ensures) (search cases)
+returns-then-not-in_range c = rw (← c.in_range.ensures) (search cases)
 
-pub returns-else-in_range : goal.returns-else-in_range
+pub returns : goal.returns
 unfolding points_refusal
-returns-else-in_range c = rw (← c.in_range.ensures) (search cases)
+returns c = rw (← c.in_range.ensures) (search cases)

@@ -2,10 +2,10 @@
 use Rattle.phase.specs.Ranges.{phase_in_range}
 use Rattle.phase.proofs.plain.in_range.Goals as goal
 
-pub returns-in-Idle : goal.returns-in-Idle
+pub returns-in-None : goal.returns-in-None
 unfolding phase_in_range
-returns-in-Idle c = rw c.in-Idle.is
+returns-in-None c = rw c.in-None.is
 
-pub returns-in-Holds : goal.returns-in-Holds
+pub returns-in-Some : goal.returns-in-Some
 unfolding phase_in_range
-returns-in-Holds c = rw (c.in-Holds.is, c.held_in_range.ensures)
+returns-in-Some c = rw (c.in-Some.is, c.held_in_range.ensures)

@@ -9,16 +9,16 @@ use Rattle.phase.proofs.ranged.due.Goals as goal
 pub whole-requires : goal.whole-requires
 whole-requires c =
     let p = c.requires in
-    (subst PhaseOk c.in-Holds.is p.0, p.1)
+    (subst PhaseOk c.in-Some.is p.0, p.1)
 
-pub returns-in-Idle : goal.returns-in-Idle
+pub returns-in-None : goal.returns-in-None
 unfolding due_in
-returns-in-Idle c = search cases
+returns-in-None c = search cases
 
 pub returns-then-x-eq9296 : goal.returns-then-x-eq9296
 unfolding due_in
-returns-then-x-eq9296 c = rw (c.in-Holds.is, c.whole.ensures) (sym (if_yes _ _ _ (eq-eqb _ _ c.if-x-eq9296.true)))
+returns-then-x-eq9296 c = rw (c.in-Some.is, c.whole.ensures) (sym (if_yes _ _ _ (eq-eqb _ _ c.if-x-eq9296.true)))
 
 pub returns-else-x-eq9296 : goal.returns-else-x-eq9296
 unfolding due_in
-returns-else-x-eq9296 c = rw c.in-Holds.is (sym (if_no _ _ _ (ne_eqb _ _ c.if-x-eq9296.false)))
+returns-else-x-eq9296 c = rw c.in-Some.is (sym (if_no _ _ _ (ne_eqb _ _ c.if-x-eq9296.false)))

@@ -4,10 +4,10 @@ use Rattle.laws.specs.Choice.{cases}
 use Rattle.phase.specs.Answers.{held_past}
 use Rattle.phase.proofs.refusals.held_past.Goals as goal
 
-pub returns-then-c-lt9296 : goal.returns-then-c-lt9296
+pub returns-then-x-lt9296 : goal.returns-then-x-lt9296
 unfolding held_past
-returns-then-c-lt9296 c = c.past.ensures ∙ search cases
+returns-then-x-lt9296 c = c.past.ensures ∙ search cases
 
-pub returns-else-c-lt9296 : goal.returns-else-c-lt9296
+pub returns-else-x-lt9296 : goal.returns-else-x-lt9296
 unfolding held_past
-returns-else-c-lt9296 c = search cases
+returns-else-x-lt9296 c = search cases

@@ -10,10 +10,10 @@ pub returns : goal.returns
 unfolding whole_in_range
 returns c =
     let s = c.args.s in
-    let told = c.struct_told-3-1.given.1.1 in
-    let a : mag s.head.amp < 2 ^ 63 = search in
-    let b : mag s.next.amp < 2 ^ 63 = search in
-    let d : mag s.delta < 2 ^ 63 = told.0.1 in
-    let g : mag s.gain < 2 ^ 63 = told.1.0.1 in
-    let m : mag s.gamma < 2 ^ 63 = told.1.1.0.1 in
+    let told = c.struct_told-3-1.given in
+    let a : mag s.head.amp < 2 ^ 63 = told.0.1.1.1.1.1.1.0.1 in
+    let b : mag s.next.amp < 2 ^ 63 = told.1.0.1.1.1.1.1.1.0.1 in
+    let d : mag s.delta < 2 ^ 63 = told.1.1.0.1 in
+    let g : mag s.gain < 2 ^ 63 = told.1.1.1.0.1 in
+    let m : mag s.gamma < 2 ^ 63 = told.1.1.1.1.0.1 in
     rw (rw (back w64 s.head.amp a) at c.wide.ensures, rw (back w64 s.next.amp b) at c.wide-2.ensures, back w64 s.delta d, back w64 s.gain g, back w64 s.gamma m)

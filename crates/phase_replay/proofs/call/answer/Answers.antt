@@ -1,5 +1,6 @@
 -- `phase_replay::call::answer` meets its contract. Assumes nothing.
 use native.Mathlib.Omega.{arith}
+use Rattle.phase_replay.specs.Calls.{head_call, due_call, next_call}
 use Rattle.phase_replay.specs.Replay.{answer_of}
 use mathlib.Core.Path.{◌∙◌}
 use Rattle.phase_replay.proofs.Laws.{answer_none}
@@ -7,11 +8,11 @@ use Rattle.phase_replay.proofs.call.answer.Goals as goal
 
 pub returns-in-0 : goal.returns-in-0
 unfolding answer_of
-returns-in-0 c = rw (c.in-0.is, c.four.ensures, c.of_i16.ensures)
+returns-in-0 c = rw (c.in-0.is, c.four.ensures, c.of.ensures)
 
 pub returns-in-1 : goal.returns-in-1
 unfolding answer_of
-returns-in-1 c = rw (c.in-1.is, c.four-in-1.ensures, c.of_i16-in-1.ensures)
+returns-in-1 c = rw (c.in-1.is, c.four-in-1.ensures, c.of-in-1.ensures)
 
 pub returns-in-2 : goal.returns-in-2
 unfolding answer_of
@@ -42,16 +43,16 @@ unfolding answer_of
 returns-in-8 c = rw (c.in-8.is, c.restart.ensures)
 
 pub returns-in-9 : goal.returns-in-9
-unfolding answer_of
-returns-in-9 c = rw (c.in-9.is, c.head.ensures)
+unfolding answer_of head_call
+returns-in-9 c = rw (c.in-9.is, c.headed.ensures, c.head.ensures)
 
 pub returns-in-10 : goal.returns-in-10
-unfolding answer_of
-returns-in-10 c = rw (c.in-10.is, c.due.ensures)
+unfolding answer_of due_call
+returns-in-10 c = rw (c.in-10.is, c.due.ensures, c.head-in-10.ensures)
 
 pub returns-in-11 : goal.returns-in-11
-unfolding answer_of
-returns-in-11 c = rw (c.in-11.is, c.next.ensures)
+unfolding answer_of next_call
+returns-in-11 c = rw (c.in-11.is, c.next.ensures, c.head-in-11.ensures)
 
 pub returns-in-12 : goal.returns-in-12
 unfolding answer_of

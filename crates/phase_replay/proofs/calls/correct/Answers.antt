@@ -16,4 +16,4 @@ pub returns : goal.returns
 unfolding correct_call
 returns c =
     let a = c.args in
-    rw (c.answered.ensures, c.correct-a.ensures, c.index-j.ensures, c.least-l.ensures.0, c.least-k.ensures.0, take_least _ a.table.now, take_least _ a.store.now, c.whole_at-s.ensures)
+    rw (c.answered.ensures, c.correct.ensures, c.least-l.ensures.0, c.least-k.ensures.0, take_least _ a.table.now, take_least _ a.store.now, c.whole_at-s.ensures)

@@ -5,4 +5,4 @@ use Rattle.phase_replay.proofs.calls.gain.Goals as goal
 
 pub returns : goal.returns
 unfolding gain_call
-returns c = rw (c.whole.ensures, rw (to_z-of_z (record { sfits = c.of_bits.type_inv })) at c.gain_of-w.ensures, c.of_bits.ensures)
+returns c = rw (c.whole.ensures, rw (to_z-of_z (record { sfits = c.of_bits.type_inv })) at c.gain_of.ensures, c.of_bits.ensures)

@@ -4,4 +4,4 @@ use Rattle.phase_replay.proofs.calls.hear.Goals as goal
 
 pub returns : goal.returns
 unfolding hear_call
-returns c = rw (c.nco.ensures, c.flag.ensures, c.head-r.ensures, c.head_at-h.ensures, c.nco_at-n.ensures)
+returns c = rw (c.heard.ensures, c.head.ensures, c.head_at-h.ensures, c.nco_at-n.ensures)

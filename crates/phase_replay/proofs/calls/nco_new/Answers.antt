@@ -5,4 +5,4 @@ use Rattle.phase_replay.proofs.calls.nco_new.Goals as goal
 
 pub returns : goal.returns
 unfolding new_call
-returns c = rw (c.nco.ensures, rw (to_z-of_z (record { sfits = c.signed32.type_inv })) at c.new-n.ensures, c.signed32.ensures)
+returns c = rw (c.nco.ensures, rw (to_z-of_z (record { sfits = c.of_bits.type_inv })) at c.new-n.ensures, c.of_bits.ensures)

@@ -4,4 +4,4 @@ use Rattle.phase_replay.proofs.calls.nco_restart.Goals as goal
 
 pub returns : goal.returns
 unfolding nco_restart_call
-returns c = rw (c.nco.ensures, c.restart-r.ensures, c.nco_at-n.ensures)
+returns c = rw (c.restarted.ensures, c.restart.ensures, c.nco_at-n.ensures)

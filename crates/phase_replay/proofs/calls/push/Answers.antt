@@ -16,5 +16,5 @@ unfolding push_call push_left
 returns c =
     let r = c.push-r in
     let a = c.args in
-    let e = rw (back w16 c.signed16.result c.signed16.type_inv, back w16 c.signed16-2.result c.signed16-2.type_inv, c.signed16.ensures, c.signed16-2.ensures, c.least-k.ensures.0, take_least _ a.store.now, c.phase_at-s.ensures) at r.ensures in
-    (rw (c.phase.ensures, e.0), rw (e.1, c.least-k.ensures.0, drop_least _ a.store.now))
+    let e = rw (back w16 c.of_bits.result c.of_bits.type_inv, back w16 c.of_bits-2.result c.of_bits-2.type_inv, c.of_bits.ensures, c.of_bits-2.ensures, c.least-k.ensures.0, take_least _ a.store.now, c.phase_at-s.ensures) at r.ensures in
+    (rw (c.held.ensures, e.0), rw (e.1, c.least-k.ensures.0, drop_least _ a.store.now))

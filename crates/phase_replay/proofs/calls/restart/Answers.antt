@@ -4,4 +4,4 @@ use Rattle.phase_replay.proofs.calls.restart.Goals as goal
 
 pub returns : goal.returns
 unfolding restart_call
-returns c = rw (c.phase.ensures, c.restart-r.ensures, c.phase_at-s.ensures)
+returns c = rw (c.held.ensures, c.restart.ensures, c.phase_at-s.ensures)

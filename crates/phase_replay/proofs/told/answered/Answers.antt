@@ -2,10 +2,10 @@
 use Rattle.phase_replay.specs.Told.{answered_told}
 use Rattle.phase_replay.proofs.told.answered.Goals as goal
 
-pub returns-in-Nothing : goal.returns-in-Nothing
+pub returns-in-Ok : goal.returns-in-Ok
 unfolding answered_told
-returns-in-Nothing c = rw (c.in-Nothing.is, c.four.ensures)
+returns-in-Ok c = rw (c.in-Ok.is, c.corrected.ensures)
 
-pub returns-in-Given : goal.returns-in-Given
+pub returns-in-Err : goal.returns-in-Err
 unfolding answered_told
-returns-in-Given c = rw (c.in-Given.is, c.corrected.ensures)
+returns-in-Err c = rw (c.in-Err.is, c.four.ensures, c.number.ensures)

@@ -16,11 +16,11 @@ returns c =
     let yi : SFits w16 k.y.i = search rules in
     let yq : SFits w16 k.y.q = search rules in
     rw (
-      rw (to_z-of_z yq) at c.bits16-4.ensures,
-      rw (to_z-of_z yi) at c.bits16-3.ensures,
-      rw (to_z-of_z g) at c.to_bits.ensures,
-      rw (to_z-of_z rq) at c.bits16-2.ensures,
-      rw (to_z-of_z ri) at c.bits16.ensures,
+      rw (to_z-of_z yq) at c.to_bits-5.ensures,
+      rw (to_z-of_z yi) at c.to_bits-4.ensures,
+      rw (to_z-of_z g) at c.to_bits-3.ensures,
+      rw (to_z-of_z rq) at c.to_bits-2.ensures,
+      rw (to_z-of_z ri) at c.to_bits.ensures,
       c.word_number.ensures,
       c.slot_shown-s.ensures,
     )

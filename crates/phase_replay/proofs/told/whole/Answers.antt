@@ -6,12 +6,12 @@ use mir.Syntax.{w64}
 use borrow.Author.Rules.{rules}
 use Rattle.phase_replay.proofs.told.whole.Goals as goal
 
-pub returns-in-Value : goal.returns-in-Value
+pub returns-in-Ok : goal.returns-in-Ok
 unfolding whole_told
-returns-in-Value c =
-    let f : SFits w64 c.in-Value.v = search rules in
-    rw (c.in-Value.is, c.four.ensures, rw (to_z-of_z f) at c.to_bits.ensures)
+returns-in-Ok c =
+    let f : SFits w64 c.in-Ok.v = search rules in
+    rw (c.in-Ok.is, c.four.ensures, rw (to_z-of_z f) at c.to_bits.ensures)
 
-pub returns-in-Refused : goal.returns-in-Refused
+pub returns-in-Err : goal.returns-in-Err
 unfolding whole_told
-returns-in-Refused c = rw (c.in-Refused.is, c.four-in-Refused.ensures)
+returns-in-Err c = rw (c.in-Err.is, c.four-in-Err.ensures, c.number.ensures)

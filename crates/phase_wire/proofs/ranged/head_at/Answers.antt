@@ -5,4 +5,4 @@ use Rattle.phase_wire.proofs.ranged.head_at.Goals as goal
 
 pub returns : goal.returns
 unfolding head_of
-returns c = rw (to_z-of_z (record { sfits = c.of_bits.type_inv }), c.low32-2.ensures, c.of_bits.ensures, c.low32.ensures, c.corr_at-c.ensures, c.slot_at-s.ensures, c.word_of-w.ensures)
+returns c = rw (to_z-of_z (record { sfits = c.of_bits-2.type_inv }), c.of_bits-3.ensures, c.of_bits-2.ensures, c.of_bits.ensures, c.corr_at.ensures, c.slot_at.ensures, c.word_of.ensures)

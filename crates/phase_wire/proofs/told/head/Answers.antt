@@ -13,4 +13,4 @@ returns c =
     let a : SFits w64 h.amp = search rules in
     let re : SFits w32 h.corr.re = search rules in
     let im : SFits w32 h.corr.im = search rules in
-    rw (rw (to_z-of_z im) at c.bits32-2.ensures, rw (to_z-of_z re) at c.bits32.ensures, rw (to_z-of_z a) at c.to_bits.ensures, c.word_number.ensures, c.slot_shown-s.ensures)
+    rw (rw (to_z-of_z im) at c.to_bits-3.ensures, rw (to_z-of_z re) at c.to_bits-2.ensures, rw (to_z-of_z a) at c.to_bits.ensures, c.word_number.ensures, c.slot_shown-s.ensures)

@@ -10,4 +10,4 @@ pub returns : goal.returns
 unfolding nco_told
 returns c =
     let f : SFits w32 c.args.n.freq = search rules in
-    rw (rw (to_z-of_z f) at c.bits32.ensures, c.trail_shown-s.ensures)
+    rw (rw (to_z-of_z f) at c.to_bits.ensures, c.trail_shown-s.ensures)

@@ -2,10 +2,10 @@
 use Rattle.phase_wire.specs.Told.{phase_told}
 use Rattle.phase_wire.proofs.told.phase.Goals as goal
 
-pub returns-in-Idle : goal.returns-in-Idle
+pub returns-in-None : goal.returns-in-None
 unfolding phase_told
-returns-in-Idle c = rw (c.in-Idle.is, c.four.ensures)
+returns-in-None c = rw (c.in-None.is, c.four.ensures)
 
-pub returns-in-Holds : goal.returns-in-Holds
+pub returns-in-Some : goal.returns-in-Some
 unfolding phase_told
-returns-in-Holds c = rw (c.in-Holds.is, c.head.ensures)
+returns-in-Some c = rw (c.in-Some.is, c.head.ensures)

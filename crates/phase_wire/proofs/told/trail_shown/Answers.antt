@@ -6,13 +6,13 @@ use mir.Syntax.{w64}
 use borrow.Author.Rules.{rules}
 use Rattle.phase_wire.proofs.told.trail_shown.Goals as goal
 
-pub returns-in-Empty : goal.returns-in-Empty
+pub returns-in-None : goal.returns-in-None
 unfolding trail_shown
-returns-in-Empty c = rw c.in-Empty.is
+returns-in-None c = rw c.in-None.is
 
-pub returns-in-Since : goal.returns-in-Since
+pub returns-in-Some : goal.returns-in-Some
 unfolding trail_shown
-returns-in-Since c =
-    let s = c.in-Since.s in
+returns-in-Some c =
+    let s = c.in-Some.s in
     let f : SFits w64 s.sum = search rules in
-    rw (c.in-Since.is, rw (to_z-of_z f) at c.to_bits.ensures)
+    rw (c.in-Some.is, rw (to_z-of_z f) at c.to_bits.ensures)

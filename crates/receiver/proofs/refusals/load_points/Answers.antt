@@ -13,10 +13,6 @@ pub returns-then-bad_scale : goal.returns-then-bad_scale
 unfolding points_refusal
 returns-then-bad_scale c = let k = rw (to_z-of_z {w = w64} c.ranges.k) at c.bad_scale.ensures in rw (← c.bad_points.ensures, ← k) (search cases)
 
-pub returns-then-receiver_within : goal.returns-then-receiver_within
+pub returns : goal.returns
 unfolding points_refusal
-returns-then-receiver_within c = let k = rw (to_z-of_z {w = w64} c.ranges.k) at c.bad_scale.ensures in rw (← c.bad_points.ensures, ← k, ← c.receiver_within.ensures) (search cases)
-
-pub returns-else-receiver_within : goal.returns-else-receiver_within
-unfolding points_refusal
-returns-else-receiver_within c = let k = rw (to_z-of_z {w = w64} c.ranges.k) at c.bad_scale.ensures in rw (← c.bad_points.ensures, ← k, ← c.receiver_within.ensures) (search cases)
+returns c = let k = rw (to_z-of_z {w = w64} c.ranges.k) at c.bad_scale.ensures in rw (← c.bad_points.ensures, ← k, c.range_refusal.ensures) (search cases)

@@ -7,12 +7,12 @@ use mathlib.Core.Bool.{◌||◌, true}
 use mathlib.Core.Path.{sym}
 use Rattle.receiver_bounds.proofs.plain.eq_within.Goals as goal
 
-pub returns-then-opened : goal.returns-then-opened
+pub returns-then-e : goal.returns-then-e
 unfolding eq_within
-returns-then-opened c = rw c.sums_within.ensures (search cases)
+returns-then-e c = rw c.sums_within.ensures (search cases)
 
-pub returns-else-opened : goal.returns-else-opened
+pub returns-else-e : goal.returns-else-e
 unfolding eq_within
-returns-else-opened c =
+returns-else-e c =
     let e = c.args.e in
-    rw (if_no e.opened (sums_within e.sums) true c.if-opened.false) (sym (and_true (eqb e.filled 0 || eqb e.filled 11)))
+    rw (if_no e.opened (sums_within e.sums) true c.if-e.false) (sym (and_true (eqb e.filled 0 || eqb e.filled 11)))

@@ -3,10 +3,10 @@ use Rattle.receiver_bounds.specs.Bounds.{last_within}
 use Rattle.laws.specs.Choice.{cases}
 use Rattle.receiver_bounds.proofs.plain.last_within.Goals as goal
 
-pub returns-in-Never : goal.returns-in-Never
+pub returns-in-None : goal.returns-in-None
 unfolding last_within
-returns-in-Never c = search cases
+returns-in-None c = search cases
 
-pub returns-in-At : goal.returns-in-At
+pub returns-in-Some : goal.returns-in-Some
 unfolding last_within
-returns-in-At c = rw (c.in-At.is, c.between.ensures)
+returns-in-Some c = rw (c.in-Some.is, c.between.ensures)

@@ -2,10 +2,10 @@
 use Rattle.receiver_bounds.specs.Bounds.{trail_within, nco_within}
 use Rattle.receiver_bounds.proofs.plain.nco_within.Goals as goal
 
-pub returns-in-Empty : goal.returns-in-Empty
+pub returns-in-None : goal.returns-in-None
 unfolding nco_within trail_within
-returns-in-Empty c = rw c.in-Empty.is
+returns-in-None c = rw c.in-None.is
 
-pub returns-in-Since : goal.returns-in-Since
+pub returns-in-Some : goal.returns-in-Some
 unfolding nco_within trail_within
-returns-in-Since c = rw (c.in-Since.is, c.steps_within.ensures)
+returns-in-Some c = rw (c.in-Some.is, c.steps_within.ensures)

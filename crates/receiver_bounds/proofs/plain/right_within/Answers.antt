@@ -12,21 +12,20 @@ use mir.Val.{of_z, to_z}
 use native.Mathlib.Omega.{arith}
 use Rattle.receiver_bounds.proofs.plain.right_within.Goals as goal
 
-pub loop-k-init : goal.loop-k-init
-loop-k-init c = (omega arith, refl)
+pub loop-v-init : goal.loop-v-init
+loop-v-init c = refl
 
-pub loop-k-preserved : goal.loop-k-preserved
-loop-k-preserved c =
+pub loop-v-preserved : goal.loop-v-preserved
+loop-v-preserved c =
     let l = c.args.p.now in
-    let k = c.loop-k.k in
+    let k = c.loop-v.v-index in
     let x = get_or l k (pos 0) in
-    let long : length l ≡ 22 = c.requires in
     let u = to_z w64 (of_z w64 x) in
     let t : (le_z (negsuc 199010845458431) u && le_z u (pos 199010845458432)) ≡ leb (nat_abs x) 199010845458432 = rw (back w64 x c.v-1.given) (within_abs x 199010845458431) in
-    (omega (arith, c.loop-k-test.true), all_next 199010845458432 l k c.loop-k.all _ (omega (arith, c.loop-k-test.true, long)) t ∙ c.loop-k.invariant.1)
+    all_next 199010845458432 l k c.loop-v.all _ (omega (arith, c.loop-v-test.true, c.told-p)) t ∙ c.loop-v.invariant
 
 pub returns : goal.returns
 returns c =
     let l = c.args.p.now in
-    let e : c.loop-k.k ≡ length l = omega (arith, c.loop-k.invariant.0, c.loop-k-test, c.requires) in
-    sym (all_end 199010845458432 l c.loop-k.all) ∙ rw e at c.loop-k.invariant.1
+    let e : c.loop-v.v-index ≡ length l = omega (arith, c.loop-v.auto.v-index-end, c.loop-v-test.false, c.told-p) in
+    sym (all_end 199010845458432 l c.loop-v.all) ∙ rw e at c.loop-v.invariant

@@ -4,4 +4,4 @@ use Rattle.receiver_calls.proofs.calls.event.Goals as goal
 
 pub returns : goal.returns
 unfolding event_call
-returns c = rw (c.turned.ensures, c.event.ensures, c.event_at-e.ensures)
+returns c = rw (c.turned.ensures, c.event.ensures, c.event_at.ensures)

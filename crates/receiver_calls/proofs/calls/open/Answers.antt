@@ -4,4 +4,4 @@ use Rattle.receiver_calls.proofs.calls.open.Goals as goal
 
 pub returns : goal.returns
 unfolding open_call
-returns c = rw (c.answered.ensures, c.open_sums.ensures, c.low32.ensures)
+returns c = rw (c.answered.ensures, c.open_sums.ensures, c.of_bits.ensures)

@@ -13,4 +13,4 @@ slice_bounds-load_points-end c = sym (length-take-le _ _ (search rules))
 
 pub returns : goal.returns
 unfolding points_call
-returns c = rw (c.answered.ensures, rw (to_z-of_z {w = w64} (record { sfits = c.of_bits-scale.type_inv })) at c.load_points.ensures, c.of_bits-scale.ensures, c.low8-bits.ensures, c.least-n.ensures.0, c.points-all.ensures, c.packed-bytes.ensures)
+returns c = rw (c.answered.ensures, rw (to_z-of_z {w = w64} (record { sfits = c.of_bits-scale.type_inv })) at c.load_points.ensures, c.of_bits-scale.ensures, c.of_bits.ensures, c.least-n.ensures.0, c.points-all.ensures, c.packed-bytes.ensures)

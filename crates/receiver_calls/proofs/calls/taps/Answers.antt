@@ -4,4 +4,4 @@ use Rattle.receiver_calls.proofs.calls.taps.Goals as goal
 
 pub returns : goal.returns
 unfolding taps_call
-returns c = rw (c.answered.ensures, c.load_taps.ensures, c.low32.ensures, c.sixteens-t.ensures)
+returns c = rw (c.answered.ensures, c.load_taps.ensures, c.of_bits.ensures, c.parts-t.ensures)

@@ -4,4 +4,4 @@ use Rattle.receiver_calls.proofs.told.period.Goals as goal
 
 pub returns : goal.returns
 unfolding period_told
-returns c = rw c.flag.ensures
+returns c = rw (c.flag.ensures, c.is_some.ensures, c.unwrap_or.ensures, c.flag-2.ensures)

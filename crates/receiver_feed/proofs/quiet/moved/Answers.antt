@@ -4,16 +4,16 @@ use mir.Syntax.{w32}
 use Rattle.receiver_feed.specs.Quiet.{place_in}
 use Rattle.receiver_feed.proofs.quiet.moved.Goals as goal
 
-pub quiet-requires-in-Holds : goal.quiet-requires-in-Holds
+pub quiet-requires-in-Some : goal.quiet-requires-in-Some
 unfolding place_in
-quiet-requires-in-Holds c =
+quiet-requires-in-Some c =
     let p = c.requires in
-    (p.0, p.1, p.2, p.3, p.4, p.5, rw c.in-Holds.is at p.6, p.7, p.8, p.9, p.10)
+    (p.0, p.1, p.2, p.3, p.4, p.5, rw c.in-Some.is at p.6, p.7, p.8, p.9, p.10)
 
-pub returns-in-Idle : goal.returns-in-Idle
+pub returns-in-None : goal.returns-in-None
 unfolding place_in
-returns-in-Idle c = rw c.in-Idle.is (rw (to_z-of_z {w = w32} c.ranges.freq) at c.quiet.ensures)
+returns-in-None c = rw c.in-None.is (rw (to_z-of_z {w = w32} c.ranges.freq) at c.quiet.ensures)
 
-pub returns-in-Holds : goal.returns-in-Holds
+pub returns-in-Some : goal.returns-in-Some
 unfolding place_in
-returns-in-Holds c = rw c.in-Holds.is (rw (to_z-of_z {w = w32} c.ranges.freq) at c.quiet-in-Holds.ensures)
+returns-in-Some c = rw c.in-Some.is (rw (to_z-of_z {w = w32} c.ranges.freq) at c.quiet-in-Some.ensures)

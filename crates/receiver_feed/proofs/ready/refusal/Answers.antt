@@ -1,17 +1,13 @@
 -- `receiver_feed::ready::refusal` meets its contract. Assumes nothing.
-use Rattle.laws.specs.Choice.{cases}
-use Rattle.receiver.specs.Symbol.{next_of}
+use Rattle.laws.specs.Choice.{when◌then◌else◌}
+use Rattle.receiver.specs.Answers.{range_refusal}
 use Rattle.receiver_symbol.specs.Parts.{state_refusal}
 use Rattle.receiver_feed.proofs.ready.refusal.Goals as goal
 
-pub returns-then-past : goal.returns-then-past
-unfolding state_refusal next_of
-returns-then-past c = rw (c.requires, ← c.tally_within.ensures, ← c.past_end-past.ensures) (search cases)
+pub returns-then-not-tally_within : goal.returns-then-not-tally_within
+unfolding state_refusal range_refusal when◌then◌else◌
+returns-then-not-tally_within c = rw (c.requires, ← c.tally_within.ensures, c.if-not-tally_within.true)
 
-pub returns-else-past : goal.returns-else-past
-unfolding state_refusal next_of
-returns-else-past c = rw (c.requires, ← c.tally_within.ensures, ← c.past_end-past.ensures) (search cases)
-
-pub returns-else-tally_within : goal.returns-else-tally_within
-unfolding state_refusal
-returns-else-tally_within c = rw (c.requires, ← c.tally_within.ensures) (search cases)
+pub returns : goal.returns
+unfolding state_refusal range_refusal when◌then◌else◌
+returns c = rw (c.next.ensures, c.requires, ← c.tally_within.ensures, c.if-not-tally_within.false)

@@ -1,24 +1,14 @@
 -- `receiver_feed::ready::standing` meets its contract. Assumes nothing.
-use Rattle.laws.specs.Choice.{cases}
+use Rattle.std.proofs.lemmas.Result.{err_from_is_err_and}
 use Rattle.receiver_feed.specs.Turns.{standing_by}
 use Rattle.receiver_feed.proofs.ready.standing.Goals as goal
 
-pub returns-then-receiver_within : goal.returns-then-receiver_within
+pub returns-in_err-lent : goal.returns-in_err-lent
 unfolding standing_by
-returns-then-receiver_within c = rw (← c.receiver_within.ensures, ← c.ones.ensures, ← c.ones-then-acc-store.ensures) (search cases)
+returns-in_err-lent c =
+    let p = err_from_is_err_and c.from_residual.result c.from_residual.ensures.1 in
+    rw (p.1, p.2, ← c.lent.ensures, c.in_err-lent.was)
 
-pub returns-else-receiver_within : goal.returns-else-receiver_within
+pub returns : goal.returns
 unfolding standing_by
-returns-else-receiver_within c = rw (← c.receiver_within.ensures, ← c.ones.ensures, ← c.ones-then-acc-store.ensures) (search cases)
-
-pub returns-else-table-eq1024 : goal.returns-else-table-eq1024
-unfolding standing_by
-returns-else-table-eq1024 c = rw (← c.ones.ensures, ← c.ones-then-acc-store.ensures) (search cases)
-
-pub returns-else-ones : goal.returns-else-ones
-unfolding standing_by
-returns-else-ones c = rw (← c.ones.ensures, ← c.ones-then-acc-store.ensures) (search cases)
-
-pub returns-else-acc-store : goal.returns-else-acc-store
-unfolding standing_by
-returns-else-acc-store c = search cases
+returns c = rw (c.range_refusal.ensures, ← c.lent.ensures, c.in_ok-lent.was)

@@ -58,5 +58,5 @@ returns-else-m-left c =
     let e : c.args.n - c.args.i ≡ calm_of c.args.r (c.args.n - c.args.i) = w ∙ c.calm-m.ensures in
     let a = c.args in
     let g = c.stretch-p-else-m-left.ensures in
-    stretch-end (record { bytes = a.bytes.now; f = a.f.now; s = a.s.now; table = a.table.now }) a.n a.i a.r a.acc.now a.store.now a.soft.now _ _ _ _ _ _ _ _ c.requires.0
+    stretch-end (record { bytes = a.bytes.now; f = a.f.now; s = a.s.now; table = a.table.now }) a.n a.i a.r a.acc.now a.store.now a.soft.now _ _ _ _ _ _ c.requires.0
     e (λ z. c.if-m-eq0.false (sym w ∙ z)) c.requires.3 c.requires.2 g.0 g.1 g.2 g.3 g.4 g.5

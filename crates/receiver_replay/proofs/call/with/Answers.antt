@@ -30,7 +30,7 @@ returns-in-5 c = rw (c.in-5.is, ← c.symbols-x.ensures) (c.feed.ensures c.args.
 
 pub returns-in-6 : goal.returns-in-6
 unfolding stores_of
-returns-in-6 c = rw (c.in-6.is, c.plain-in-6.ensures, c.set_natural.ensures)
+returns-in-6 c = rw (c.in-6.is, c.plain-in-6.ensures, c.set-in-6.ensures)
 
 pub returns-in-7 : goal.returns-in-7
 unfolding stores_of

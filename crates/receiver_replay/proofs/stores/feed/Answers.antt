@@ -27,5 +27,5 @@ returns c = λ input.
     let e = c.feed-d.ensures in
     lent_is (feed_course s.k s.p.now s.x.now) s.k s.p.now s.table.now s.acc.now s.store.now s.soft.now input _ _ _ _ _ _ _ _ _
     c.least-t.ensures.0 c.least-a.ensures.0 c.least-b.ensures.0 c.least-c.ensures.0
-    (feed_is s.k s.p.now s.x.now _ _ _ _ _ _ _ c.least-m.ensures.0 e.0 e.1 e.2 e.3)
+    (feed_is s.k s.p.now s.x.now _ _ _ _ _ _ _ _ c.least-m.ensures.0 c.of_feed.ensures e.0 e.1 e.2 e.3)
     c.played.ensures

@@ -4,4 +4,4 @@ use Rattle.receiver_replay.proofs.stores.look.Goals as goal
 
 pub returns : goal.returns
 unfolding look_turn
-returns c = rw (c.turned.ensures, c.four.ensures, c.of_i8-c.ensures, c.of_i16-b.ensures, c.of_u32-a.ensures)
+returns c = rw (c.turned.ensures, c.four.ensures, c.of.ensures, c.of-2.ensures, c.of-3.ensures)

@@ -15,5 +15,5 @@ pub returns : goal.returns
 unfolding new_turn new_left
 returns c =
     let l = c.args.acc.now in
-    let e = rw (to_z-of_z (record { sfits = c.signed32.type_inv }), c.signed32.ensures, c.least-n.ensures.0, take_least _ l) at c.new-a.ensures in
+    let e = rw (to_z-of_z (record { sfits = c.of_bits.type_inv }), c.of_bits.ensures, c.least-n.ensures.0, take_least _ l) at c.new.ensures in
     (rw (c.answered.ensures, e.0), rw (e.1, c.least-n.ensures.0, drop_least _ l))

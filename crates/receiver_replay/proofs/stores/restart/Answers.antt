@@ -14,5 +14,5 @@ pub returns : goal.returns
 unfolding restart_turn restart_left
 returns c =
     let l = c.args.acc.now in
-    let e = rw (c.least-n.ensures.0, take_least _ l) at c.restart-a.ensures in
+    let e = rw (c.least-n.ensures.0, take_least _ l) at c.restart.ensures in
     (rw (c.answered.ensures, e.0), rw (e.1, c.least-n.ensures.0, drop_least _ l))

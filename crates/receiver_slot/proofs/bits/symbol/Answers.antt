@@ -13,36 +13,36 @@ unfolding soft_of
 main_symbol-requires c =
     let a = c.args in
     let l = length_bits (label_metric a.a.z.i a.a.z.q a.p.points) a.p.bits (pos a.p.k) in
-    let h = rw (sym c.part.ensures ∙ c.in-Main.is) at c.requires.1 in
+    let h = rw (sym c.part.ensures ∙ c.in-Ok-Main.is, c.in-Ok-Main.field-0-is) at c.requires.1 in
     (c.requires.0, omega (arith, h, l))
 
-pub returns-in-Sync : goal.returns-in-Sync
+pub returns-in-Ok-Sync : goal.returns-in-Ok-Sync
 unfolding soft_of
-returns-in-Sync c =
+returns-in-Ok-Sync c =
     let a = c.args in
-    rw (sym c.part.ensures ∙ c.in-Sync.is) (omega arith, sym (put_none a.o a.soft.now))
+    rw (sym c.part.ensures ∙ c.in-Ok-Sync.is, c.in-Ok-Sync.field-0-is) (omega arith, sym (put_none a.o a.soft.now))
 
-pub returns-in-Pilot : goal.returns-in-Pilot
+pub returns-in-Ok-Pilot : goal.returns-in-Ok-Pilot
 unfolding soft_of
-returns-in-Pilot c =
+returns-in-Ok-Pilot c =
     let a = c.args in
-    rw (sym c.part.ensures ∙ c.in-Pilot.is) (omega arith, sym (put_none a.o a.soft.now))
+    rw (sym c.part.ensures ∙ c.in-Ok-Pilot.is, c.in-Ok-Pilot.field-0-is) (omega arith, sym (put_none a.o a.soft.now))
 
-pub returns-in-Main : goal.returns-in-Main
+pub returns-in-Ok-Main : goal.returns-in-Ok-Main
 unfolding soft_of
-returns-in-Main c =
+returns-in-Ok-Main c =
     let a = c.args in
     let l = length_bits (label_metric a.a.z.i a.a.z.q a.p.points) a.p.bits (pos a.p.k) in
-    rw (sym c.part.ensures ∙ c.in-Main.is, l) c.main_symbol.ensures
+    rw (sym c.part.ensures ∙ c.in-Ok-Main.is, c.in-Ok-Main.field-0-is, l) c.main_symbol.ensures
 
-pub returns-in-Tmcc : goal.returns-in-Tmcc
+pub returns-in-Ok-Tmcc : goal.returns-in-Ok-Tmcc
 unfolding soft_of
-returns-in-Tmcc c =
+returns-in-Ok-Tmcc c =
     let a = c.args in
-    rw (sym c.part.ensures ∙ c.in-Tmcc.is) (omega arith, sym (put_none a.o a.soft.now))
+    rw (sym c.part.ensures ∙ c.in-Ok-Tmcc.is, c.in-Ok-Tmcc.field-0-is) (omega arith, sym (put_none a.o a.soft.now))
 
-pub returns-in-Refused : goal.returns-in-Refused
+pub returns-in-Err : goal.returns-in-Err
 unfolding soft_of
-returns-in-Refused c =
+returns-in-Err c =
     let a = c.args in
-    rw (sym c.part.ensures ∙ c.in-Refused.is) (omega arith, sym (put_none a.o a.soft.now))
+    rw (sym c.part.ensures ∙ c.in-Err.is) (omega arith, sym (put_none a.o a.soft.now))

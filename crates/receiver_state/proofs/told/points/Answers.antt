@@ -4,4 +4,4 @@ use Rattle.receiver_state.proofs.told.points.Goals as goal
 
 pub returns : goal.returns
 unfolding points_told
-returns c = rw (c.four.ensures, c.of_i16.ensures)
+returns c = rw (c.four.ensures, c.of.ensures)

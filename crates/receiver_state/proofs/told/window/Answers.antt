@@ -4,4 +4,4 @@ use Rattle.receiver_state.proofs.told.window.Goals as goal
 
 pub returns : goal.returns
 unfolding window_told
-returns c = rw (c.four.ensures, c.of_i16.ensures)
+returns c = rw (c.four.ensures, c.of.ensures)

@@ -4,4 +4,4 @@ use Rattle.receiver_symbol.proofs.after.taken.Goals as goal
 
 pub returns : goal.returns
 unfolding taken_by
-returns c = (rw c.after-n.ensures.0, c.store.ensures, c.after-n.ensures.1)
+returns c = (rw c.after.ensures.0, c.store.ensures, c.after.ensures.1)

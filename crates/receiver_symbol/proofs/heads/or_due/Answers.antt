@@ -2,10 +2,10 @@
 use Rattle.receiver.specs.Heads.{or_due}
 use Rattle.receiver_symbol.proofs.heads.or_due.Goals as goal
 
-pub returns-in-Nothing : goal.returns-in-Nothing
+pub returns-in-None : goal.returns-in-None
 unfolding or_due
-returns-in-Nothing c = rw c.in-Nothing.is
+returns-in-None c = rw c.in-None.is
 
-pub returns-in-Slot : goal.returns-in-Slot
+pub returns-in-Some : goal.returns-in-Some
 unfolding or_due
-returns-in-Slot c = rw c.in-Slot.is
+returns-in-Some c = rw c.in-Some.is

@@ -1,20 +1,14 @@
 -- `receiver_symbol::refusals::soon` meets its contract. Assumes nothing.
 use Rattle.receiver_symbol.specs.Parts.{soon_refusal}
-use Rattle.laws.specs.Choice.{cases}
+use Rattle.std.proofs.lemmas.Result.{err_from_is_err_and}
 use Rattle.receiver_symbol.proofs.refusals.soon.Goals as goal
 
-pub returns-then-table-eq1024 : goal.returns-then-table-eq1024
+pub returns-in_err-lent : goal.returns-in_err-lent
 unfolding soon_refusal
-returns-then-table-eq1024 c = rw (c.in_state.ensures, ← c.ones.ensures, ← c.ones-then-acc-store.ensures) (search cases)
+returns-in_err-lent c =
+    let p = err_from_is_err_and c.from_residual.result c.from_residual.ensures.1 in
+    rw (p.1, p.2, ← c.lent.ensures, c.in_err-lent.was)
 
-pub returns-else-table-eq1024 : goal.returns-else-table-eq1024
+pub returns : goal.returns
 unfolding soon_refusal
-returns-else-table-eq1024 c = rw (← c.ones.ensures, ← c.ones-then-acc-store.ensures) (search cases)
-
-pub returns-else-ones : goal.returns-else-ones
-unfolding soon_refusal
-returns-else-ones c = rw (← c.ones.ensures, ← c.ones-then-acc-store.ensures) (search cases)
-
-pub returns-else-acc-store : goal.returns-else-acc-store
-unfolding soon_refusal
-returns-else-acc-store c = search cases
+returns c = rw (c.in_state.ensures, ← c.lent.ensures, c.in_ok-lent.was)

@@ -11,4 +11,4 @@ returns-then-p-k-eq0 c = sym (if_yes _ _ _ (eq-eqb _ _ c.if-p-k-eq0.true))
 
 pub returns-else-p-k-eq0 : goal.returns-else-p-k-eq0
 unfolding slot_of
-returns-else-p-k-eq0 c = rw (c.low32.ensures, c.low8.ensures) (sym (if_no _ _ _ (ne_eqb _ _ c.if-p-k-eq0.false)))
+returns-else-p-k-eq0 c = rw (c.of_bits-else-p-k-eq0.ensures, c.of_bits.ensures) (sym (if_no _ _ _ (ne_eqb _ _ c.if-p-k-eq0.false)))

@@ -10,7 +10,7 @@ loop-k-init c = (search rules, refl)
 
 pub loop-k-preserved : goal.loop-k-preserved
 loop-k-preserved c =
-    (search rules, c.set_right.ensures ∙ parts_turn _ 11 _ _ _ c.loop-k-test.true c.loop-k.invariant.1 c.right_pair-v.ensures)
+    (search rules, c.set_entry.ensures ∙ parts_turn _ 11 _ _ _ c.loop-k-test.true c.loop-k.invariant.1 c.pair-v.ensures)
 
 pub returns : goal.returns
 unfolding right_of

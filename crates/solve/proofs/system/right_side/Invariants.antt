@@ -1,10 +1,7 @@
-use Rattle.std.proofs.Common.{◌≡◌, ◌-◌, ◌*◌, ◌≤◌, ◌++◌, drop}
+use Rattle.std.proofs.Common.{◌≡◌, ◌*◌, ◌≤◌, ◌++◌, drop}
 use Rattle.solve.proofs.Laws.{zeros}
 use Rattle.solve.specs.System.{parts, pair_of}
 use Rattle.solve.proofs.system.right_side.Given as goal
 
 abbrev pub invariant-loop-k : goal.invariant-loop-k
 invariant-loop-k l = (l.k ≤ 11) × (l.b ≡ parts (pair_of l.l) l.k ++ drop (2 * l.k) (zeros 22))
-
-abbrev pub decreases-loop-k : goal.decreases-loop-k
-decreases-loop-k l = 11 - l.k

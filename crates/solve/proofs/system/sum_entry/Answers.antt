@@ -7,9 +7,9 @@ use Rattle.solve.proofs.system.sum_entry.Goals as goal
 pub returns-then-r-c : goal.returns-then-r-c
 unfolding entry_of
 returns-then-r-c c =
-    rw (c.upper_pair.ensures, c.upper.ensures.0) (sym (if_yes _ _ _ (lt-ltb _ _ c.if-r-c.true)))
+    rw (c.pair.ensures, c.upper.ensures.0) (sym (if_yes _ _ _ (lt-ltb _ _ c.if-r-c.true)))
 
 pub returns-else-r-c : goal.returns-else-r-c
 unfolding entry_of
 returns-else-r-c c =
-    rw (c.conjugate.ensures, c.upper_pair-else-r-c.ensures, c.upper-else-r-c.ensures.0) (sym (if_no _ _ _ (le-ltb _ _ c.if-r-c.false)))
+    rw (c.conjugate.ensures, c.pair-else-r-c.ensures, c.upper-else-r-c.ensures.0) (sym (if_no _ _ _ (le-ltb _ _ c.if-r-c.false)))

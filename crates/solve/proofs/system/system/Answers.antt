@@ -4,4 +4,4 @@ use Rattle.solve.proofs.system.system.Goals as goal
 
 pub returns : goal.returns
 unfolding sums_system
-returns c = rw (c.right_side-b.ensures, c.matrix-a.ensures)
+returns c = rw (c.right_side.ensures, c.matrix.ensures)

@@ -7,7 +7,7 @@ use Rattle.solve_step.proofs.back.rest.Goals as goal
 pub loop-k-preserved : goal.loop-k-preserved
 loop-k-preserved c = (
   search rules,
-  rw (c.subtract-t.ensures, c.multiply-v.ensures, c.right.ensures, c.entry.ensures)
+  rw (c.subtract-t.ensures, c.multiply-v.ensures, c.entry-in-loop-k.ensures, c.entry.ensures)
       (sym (rest_turn _ _ _ _ _ c.loop-k-test.true) ∙ c.loop-k.invariant.1),
 )
 

@@ -4,4 +4,4 @@ use Rattle.solve_step.proofs.back.unknown.Goals as goal
 
 pub returns : goal.returns
 unfolding unknown_at
-returns c = rw (c.quotient.ensures, c.rest.ensures, c.entry-d.ensures, c.right-v.ensures)
+returns c = rw (c.quotient.ensures, c.rest.ensures, c.entry-d.ensures, c.entry-v.ensures)

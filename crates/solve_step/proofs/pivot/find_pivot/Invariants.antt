@@ -5,6 +5,3 @@ use Rattle.solve_step.proofs.pivot.find_pivot.Given as goal
 
 abbrev pub invariant-loop-r : goal.invariant-loop-r
 invariant-loop-r l = (l.r ≤ 11) × (l.b.row < 11) × (judged_of (scan_from l.a l.c l.r l.b (11 - l.r)) ≡ pivot_of l.a l.c)
-
-abbrev pub decreases-loop-r : goal.decreases-loop-r
-decreases-loop-r l = 11 - l.r

@@ -5,4 +5,4 @@ use Rattle.solve_step.proofs.rows.eliminate_column.Goals as goal
 pub returns : goal.returns
 unfolding column_step
 returns c =
-    rw (c.eliminate_rows.ensures, c.swap_right.ensures, c.swap_rows.ensures)
+    rw (c.eliminate_rows.ensures, c.swap_entries.ensures, c.swap_rows.ensures)

@@ -4,5 +4,5 @@ use Rattle.solve_step.proofs.rows.swap_entries.Goals as goal
 
 pub returns : goal.returns
 unfolding entry_swap
-returns c =
+returns g c =
     rw (c.set_entry-2.ensures, c.set_entry.ensures, c.entry-y.ensures, c.entry-x.ensures)

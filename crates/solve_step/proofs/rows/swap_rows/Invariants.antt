@@ -5,6 +5,3 @@ use Rattle.solve_step.proofs.rows.swap_rows.Given as goal
 
 abbrev pub invariant-loop-k : goal.invariant-loop-k
 invariant-loop-k l = (l.k ≤ 11) × (swap_from l.a l.c l.p l.k (11 - l.k) ≡ swap_from l.initial.a l.c l.p 0 11)
-
-abbrev pub decreases-loop-k : goal.decreases-loop-k
-decreases-loop-k l = 11 - l.k

@@ -5,6 +5,3 @@ use Rattle.solve_step.proofs.rows.update_row.Given as goal
 
 abbrev pub invariant-loop-k : goal.invariant-loop-k
 invariant-loop-k l = (l.k ≤ 11) × (row_from l.a l.c l.r l.f l.k (11 - l.k) ≡ row_from l.initial.a l.c l.r l.f l.c (11 - l.c))
-
-abbrev pub decreases-loop-k : goal.decreases-loop-k
-decreases-loop-k l = 11 - l.k

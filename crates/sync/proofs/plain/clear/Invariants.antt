@@ -6,6 +6,3 @@ use Rattle.sync.proofs.plain.clear.Given as goal
 
 abbrev pub invariant-loop-i : goal.invariant-loop-i
 invariant-loop-i l = (l.i ≤ length l.initial.acc) × (length l.acc ≡ length l.initial.acc) × (l.acc ≡ replicate l.i 0 ++ drop l.i l.initial.acc)
-
-abbrev pub decreases-loop-i : goal.decreases-loop-i
-decreases-loop-i l = length l.initial.acc - l.i

@@ -8,6 +8,3 @@ use Rattle.sync.proofs.ranged.shift.Given as goal
 
 abbrev pub invariant-loop-k : goal.invariant-loop-k
 invariant-loop-k l = (l.k ≤ 46) × (l.win ≡ firsts (λ j. get_or l.initial.win (2 + j) (pos 0)) l.k ++ drop l.k l.initial.win)
-
-abbrev pub decreases-loop-k : goal.decreases-loop-k
-decreases-loop-k l = 46 - l.k

@@ -5,6 +5,3 @@ use Rattle.sync_corr.proofs.plain.ones.Given as goal
 
 abbrev pub invariant-loop-k : goal.invariant-loop-k
 invariant-loop-k l = (l.k ≤ 48) × (l.all ≡ ones_to l.w l.k)
-
-abbrev pub decreases-loop-k : goal.decreases-loop-k
-decreases-loop-k l = 48 - l.k

@@ -5,6 +5,3 @@ use Rattle.sync_corr.proofs.plain.rows.Given as goal
 
 abbrev pub invariant-loop-j : goal.invariant-loop-j
 invariant-loop-j l = (l.j ≤ 192) × (l.r ≡ rows_to l.f l.s l.j)
-
-abbrev pub decreases-loop-j : goal.decreases-loop-j
-decreases-loop-j l = 192 - l.j

@@ -12,6 +12,3 @@ pub record Sum (win rows : List ℤ) (b n : ℕ) (v : ℤ) : Type 0 where
 
 abbrev pub invariant-loop-k : goal.invariant-loop-k
 invariant-loop-k l = (l.k ≤ 48) × Sum l.win l.rows 0 l.k l.fr × Sum l.win l.rows 48 l.k l.fi × Sum l.win l.rows 96 l.k l.sr × Sum l.win l.rows 144 l.k l.si
-
-abbrev pub decreases-loop-k : goal.decreases-loop-k
-decreases-loop-k l = 48 - l.k

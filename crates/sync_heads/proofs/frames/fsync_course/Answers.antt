@@ -17,22 +17,13 @@ moved : (c : (lts.After-moved_on tie.the-claims reads.Pre reads.Post)) →
     c.moved_on-n.result ≡ with_sign s.c (swayed_of s.positive s.c.majority) (next_slot s.c.slot)
 moved c =
     let r = c.swayed in
-    c.moved_on-n.ensures ∙ rw (back w32 r.result r.type_inv, r.ensures, (at w32 (num c.args.c.majority 8 c.requires.1.majority) tt).is, c.next_slot-t.ensures)
+    c.moved_on-n.ensures ∙ rw (back w32 r.result r.type_inv, r.ensures, (at w32 (num c.args.c.majority 8 c.requires.1.majority) tt).is, c.next_slot-slot.ensures)
 
-pub marks-marked-requires : goal.marks-marked-requires
-marks-marked-requires c = tt
-
-pub next_slot-t-requires : goal.next_slot-t-requires
-next_slot-t-requires c = c.requires.1.slot
+pub next_slot-slot-requires : goal.next_slot-slot-requires
+next_slot-slot-requires c = c.requires.1.slot
 
 pub swayed-requires : goal.swayed-requires
 swayed-requires c = rw (at w32 (num c.args.c.majority 8 c.requires.1.majority) tt).is c.requires.1.majority
-
-pub moved_on-n-requires : goal.moved_on-n-requires
-moved_on-n-requires c = tt
-
-pub begins-requires : goal.begins-requires
-begins-requires c = tt
 
 pub due-requires : goal.due-requires
 due-requires c = (c.requires.0, rw (moved c.before.before) c.requires.1.misses)
@@ -44,10 +35,10 @@ pub returns-then-begins : goal.returns-then-begins
 unfolding fsync_course
 returns-then-begins c =
     let t = sym c.begins.ensures ∙ c.if-begins.true in
-    c.due.ensures ∙ rw (moved c.before.before.before, marked c.before.before.before.before.before.before, if_yes _ _ _ (rw c.next_slot-t.ensures at t))
+    c.due.ensures ∙ rw (moved c.before.before.before, marked c.before.before.before.before.before.before.before, if_yes _ _ _ (rw c.next_slot-slot.ensures at t))
 
 pub returns-else-begins : goal.returns-else-begins
 unfolding fsync_course
 returns-else-begins c =
     let t = sym c.begins.ensures ∙ c.if-begins.false in
-    rw (c.elsewhere.ensures, moved c.before.before.before, marked c.before.before.before.before.before.before, if_no _ _ _ (rw c.next_slot-t.ensures at t))
+    rw (c.elsewhere.ensures, moved c.before.before.before, marked c.before.before.before.before.before.before.before, if_no _ _ _ (rw c.next_slot-slot.ensures at t))

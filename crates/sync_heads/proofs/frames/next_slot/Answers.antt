@@ -5,12 +5,12 @@ use Rattle.std.proofs.Common.{arith}
 use Rattle.sync_heads.proofs.frames.next_slot.Goals as goal
 
 pub overflow_add-result : goal.overflow_add-result
-overflow_add-result c = let h = rw c.in-In.is at c.requires in omega (arith, h)
+overflow_add-result c = let h = rw c.in-Some.is at c.requires in omega (arith, h)
 
-pub returns-in-Unknown : goal.returns-in-Unknown
+pub returns-in-None : goal.returns-in-None
 unfolding next_slot
-returns-in-Unknown c = search cases
+returns-in-None c = search cases
 
-pub returns-in-In : goal.returns-in-In
+pub returns-in-Some : goal.returns-in-Some
 unfolding next_slot
-returns-in-In c = rw c.in-In.is
+returns-in-Some c = rw c.in-Some.is

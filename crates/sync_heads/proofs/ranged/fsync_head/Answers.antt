@@ -5,40 +5,31 @@ use Rattle.sync_heads.specs.Frames.{fsync_course}
 use Rattle.sync_heads.specs.Heads.{fsync_of, is_fsync}
 use Rattle.sync_heads.specs.Words.{said_of}
 use Rattle.std.proofs.Common.{◌≡◌, false, ◌∙◌}
-use Rattle.sync_heads.proofs.ranged.fsync_head.Lts as lts
-use Rattle.sync_heads.proofs.ranged.fsync_head.Tie as tie
-use Rattle.sync_heads.proofs.ranged.fsync_head.Reads as reads
 use Rattle.sync_heads.proofs.ranged.fsync_head.Goals as goal
-
--- what the calls gave
-said-is : (c : (lts.After-is_fsync tie.the-claims reads.Pre reads.Post)) → let s = c.args in c.said-w.result ≡ said_of false s.r.both s.last
-said-is c = c.said-w.ensures
 
 pub said-w-requires : goal.said-w-requires
 said-w-requires c = (c.requires.0.small, c.requires.2)
-
-pub is_fsync-requires : goal.is_fsync-requires
-is_fsync-requires c = tt
 
 pub fsync_course-m-requires : goal.fsync_course-m-requires
 fsync_course-m-requires c = (c.requires.0.at, c.requires.1)
 
 pub head_of-requires : goal.head_of-requires
-head_of-requires c = rw (said-is c.before.before.before) (said_small false c.args.r.both c.args.last c.requires.0.small)
-
-course_is : (c : (lts.After-fsync_course tie.the-claims reads.Pre reads.Post)) →
-    let s = c.args in
-    c.fsync_course-m.result ≡ fsync_course 9296 (is_fsync (said_of false s.r.both s.last).word) s.c s.r.at
-course_is c = c.fsync_course-m.ensures ∙ rw (c.is_fsync.ensures, said-is c.before)
+head_of-requires c = rw c.said-w.ensures (said_small false c.args.r.both c.args.last c.requires.0.small)
 
 pub returns-then-m : goal.returns-then-m
 unfolding fsync_of
 returns-then-m c =
-    let e = course_is c.before.before in
+    let s = c.args in
+    let e : c.fsync_course-m.result ≡ fsync_course 9296 (is_fsync (said_of false s.r.both s.last).word) s.c s.r.at =
+    c.fsync_course-m.ensures ∙ rw (c.is_fsync.ensures, c.said-w.ensures)
+    in
     rw (e, if_yes _ _ _ (rw e at c.if-m.true))
 
 pub returns-else-m : goal.returns-else-m
 unfolding fsync_of
 returns-else-m c =
-    let e = course_is c.before.before.before in
-    rw (c.head_of.ensures, said-is c.before.before.before.before, e, if_no _ _ _ (rw e at c.if-m.false))
+    let s = c.args in
+    let e : c.fsync_course-m.result ≡ fsync_course 9296 (is_fsync (said_of false s.r.both s.last).word) s.c s.r.at =
+    c.fsync_course-m.ensures ∙ rw (c.is_fsync.ensures, c.said-w.ensures)
+    in
+    rw (c.head_of.ensures, c.said-w.ensures, e, if_no _ _ _ (rw e at c.if-m.false))

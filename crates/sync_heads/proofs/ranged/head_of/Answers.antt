@@ -6,11 +6,11 @@ use Rattle.sync_heads.specs.Heads.{head_of}
 use lib.Signed.{mag}
 use Rattle.sync_heads.proofs.ranged.head_of.Goals as goal
 
-pub overflow_cast-c : goal.overflow_cast-c
-overflow_cast-c c = fits w64 (part c.args.w.corr.re c.requires.re) tt
+pub overflow_cast-w : goal.overflow_cast-w
+overflow_cast-w c = fits w64 (part c.args.w.corr.re c.requires.re) tt
 
-pub overflow_cast-c-2 : goal.overflow_cast-c-2
-overflow_cast-c-2 c = fits w64 (part c.args.w.corr.im c.requires.im) tt
+pub overflow_cast-w-2 : goal.overflow_cast-w-2
+overflow_cast-w-2 c = fits w64 (part c.args.w.corr.im c.requires.im) tt
 
 pub cordic-p-requires : goal.cordic-p-requires
 cordic-p-requires c =

@@ -4,6 +4,3 @@ use Rattle.sync_replay.proofs.desk.pushes.Given as goal
 
 abbrev pub invariant-loop-k : goal.invariant-loop-k
 invariant-loop-k l = (l.k ≤ l.n) × (st l.r l.acc ≡ pushes_of l.k l.i l.q (st l.initial.r l.initial.acc))
-
-abbrev pub decreases-loop-k : goal.decreases-loop-k
-decreases-loop-k l = l.n - l.k

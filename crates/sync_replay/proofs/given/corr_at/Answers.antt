@@ -6,4 +6,4 @@ use Rattle.sync_replay.proofs.given.corr_at.Goals as goal
 pub returns : goal.returns
 unfolding corr_of
 returns c =
-    rw (to_z-of_z (record { sfits = c.signed32.type_inv }), to_z-of_z (record { sfits = c.signed32-2.type_inv }), c.signed32.ensures, c.signed32-2.ensures)
+    rw (to_z-of_z (record { sfits = c.of_bits.type_inv }), to_z-of_z (record { sfits = c.of_bits-2.type_inv }), c.of_bits.ensures, c.of_bits-2.ensures)

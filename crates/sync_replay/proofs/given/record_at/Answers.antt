@@ -10,4 +10,4 @@ returns-then-p-eq0 c = sym (if_yes _ _ _ (eq-eqb _ _ c.if-p-eq0.true))
 
 pub returns-else-p-eq0 : goal.returns-else-p-eq0
 unfolding record_of
-returns-else-p-eq0 c = rw (c.low32.ensures, c.wide.ensures) (sym (if_no _ _ _ (ne_eqb _ _ c.if-p-eq0.false)))
+returns-else-p-eq0 c = rw (c.of_bits.ensures, c.wide.ensures) (sym (if_no _ _ _ (ne_eqb _ _ c.if-p-eq0.false)))

@@ -15,8 +15,8 @@ loop-i-preserved c =
     let s = c.args in
     let ys = c.no_window-w.result in (
       omega arith,
-      rw (to_z-of_z (record { sfits = c.signed16.type_inv }), c.loop-i.invariant.1)
-          (firsts-step (window_entry s.p.now) ys c.loop-i.i c.signed16.result c.signed16.ensures (omega (arith, c.no_window-w.ensures))),
+      rw (to_z-of_z (record { sfits = c.of_bits.type_inv }), c.loop-i.invariant.1)
+          (firsts-step (window_entry s.p.now) ys c.loop-i.i c.of_bits.result c.of_bits.ensures (omega (arith, c.no_window-w.ensures))),
     )
 
 pub returns : goal.returns

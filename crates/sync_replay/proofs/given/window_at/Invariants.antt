@@ -5,6 +5,3 @@ use Rattle.sync_replay.proofs.given.window_at.Given as goal
 
 abbrev pub invariant-loop-i : goal.invariant-loop-i
 invariant-loop-i l = (l.i ≤ 48) × (l.w ≡ firsts (window_entry l.p) l.i ++ drop l.i l.initial.w)
-
-abbrev pub decreases-loop-i : goal.decreases-loop-i
-decreases-loop-i l = 48 - l.i

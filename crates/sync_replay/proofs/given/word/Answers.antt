@@ -15,8 +15,8 @@ loop-i-preserved c =
     let s = c.args in
     let ys = c.no_word-w.result in (
       omega arith,
-      rw (to_z-of_z (record { sfits = c.signed8.type_inv }), c.loop-i.invariant.1)
-          (firsts-step (one_at s.p.now s.k) ys c.loop-i.i c.signed8.result c.signed8.ensures (omega (arith, c.no_word-w.ensures))),
+      rw (to_z-of_z (record { sfits = c.of_bits.type_inv }), c.loop-i.invariant.1)
+          (firsts-step (one_at s.p.now s.k) ys c.loop-i.i c.of_bits.result c.of_bits.ensures (omega (arith, c.no_word-w.ensures))),
     )
 
 pub returns : goal.returns

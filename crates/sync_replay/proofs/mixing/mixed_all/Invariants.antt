@@ -4,6 +4,3 @@ use Rattle.sync_replay.proofs.mixing.mixed_all.Given as goal
 
 abbrev pub invariant-loop-k : goal.invariant-loop-k
 invariant-loop-k l = (l.k ≤ 40) × (l.r ≡ mixed_to l.d l.n l.k)
-
-abbrev pub decreases-loop-k : goal.decreases-loop-k
-decreases-loop-k l = 40 - l.k

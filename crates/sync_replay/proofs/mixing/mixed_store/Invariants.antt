@@ -4,6 +4,3 @@ use Rattle.sync_replay.proofs.mixing.mixed_store.Given as goal
 
 abbrev pub invariant-loop-k : goal.invariant-loop-k
 invariant-loop-k l = (l.k ≤ length l.acc) × (l.r ≡ mixed_to l.d l.acc l.k)
-
-abbrev pub decreases-loop-k : goal.decreases-loop-k
-decreases-loop-k l = length l.acc - l.k

@@ -11,6 +11,6 @@ fits c = (search rules, search rules, search rules, search rules)
 
 pub returns : goal.returns
 returns c =
-    let u = fits c.before.before.before.before.before.before.before.before.before.before.before.before.before.before.before.before in
-    rw (c.placed.ensures, c.placed-y.ensures, c.placed-x.ensures, rw (to_z-of_z u.3) at c.bits32-4.ensures, rw (to_z-of_z u.2) at c.bits32-3.ensures, rw (to_z-of_z u.1) at c.bits32-2.ensures, rw (to_z-of_z u.0) at c.bits32.ensures, c.refused-t.ensures)
-    (answer_whole c.args.refusal c.args.last c.args.es)
+    let u = fits c.before.before.before.before.before.before.before.before.before.before.before.before.before in
+    rw (c.placed.ensures, c.placed-y.ensures, c.placed-x.ensures, rw (to_z-of_z u.3) at c.to_bits-4.ensures, rw (to_z-of_z u.2) at c.to_bits-3.ensures, rw (to_z-of_z u.1) at c.to_bits-2.ensures, rw (to_z-of_z u.0) at c.to_bits.ensures, c.refused-t.ensures)
+    (answer_whole c.args.last c.args.es)

@@ -14,4 +14,4 @@ unfolding head_row
 returns c =
     let re : SFits w32 c.args.h.corr.re = search rules in
     let im : SFits w32 c.args.h.corr.im = search rules in
-    rw (rw (to_z-of_z (amp-fits c.before.before.before.before.before.before.before.before.before.before.before)) at c.to_bits.ensures, rw (to_z-of_z im) at c.bits32-2.ensures, rw (to_z-of_z re) at c.bits32.ensures, c.word_number.ensures, c.slot_shown-s.ensures)
+    rw (rw (to_z-of_z (amp-fits c.before.before.before.before.before.before.before.before.before.before)) at c.to_bits-3.ensures, rw (to_z-of_z im) at c.to_bits-2.ensures, rw (to_z-of_z re) at c.to_bits.ensures, c.word_number.ensures, c.slot_shown-s.ensures)

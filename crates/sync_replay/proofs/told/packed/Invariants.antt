@@ -5,6 +5,3 @@ use Rattle.sync_replay.proofs.told.packed.Given as goal
 
 abbrev pub invariant-loop-i : goal.invariant-loop-i
 invariant-loop-i l = (l.i ≤ 320) × (l.t ≡ firsts (byte_at l.n) l.i ++ drop l.i l.initial.t)
-
-abbrev pub decreases-loop-i : goal.decreases-loop-i
-decreases-loop-i l = 320 - l.i

@@ -6,4 +6,4 @@ use Rattle.sync_wire.proofs.given.course_at.Goals as goal
 pub returns : goal.returns
 unfolding course_of
 returns c =
-    rw (to_z-of_z (record { sfits = c.signed32.type_inv }), c.signed32.ensures, c.low32-3.ensures, c.low32-2.ensures, c.low32.ensures, c.record_at-l.ensures, c.slot_at-s.ensures)
+    rw (to_z-of_z (record { sfits = c.of_bits.type_inv }), c.of_bits.ensures, c.of_bits-4.ensures, c.of_bits-3.ensures, c.of_bits-2.ensures, c.record_at-l.ensures, c.slot_at-s.ensures)

@@ -10,4 +10,4 @@ pub returns : goal.returns
 unfolding heads_told
 returns c =
     let m : SFits w32 c.args.r.course.majority = search rules in
-    rw (rw (to_z-of_z m) at c.bits32.ensures, c.record_shown-z.ensures, c.slot_shown-y.ensures, c.stage_shown-x.ensures)
+    rw (rw (to_z-of_z m) at c.to_bits.ensures, c.record_shown-z.ensures, c.slot_shown-y.ensures, c.stage_shown-x.ensures)

@@ -18,7 +18,7 @@ returns-in-First c =
     let b : SFits w32 r.both.f.im = search rules in
     let d : SFits w32 r.both.s.re = search rules in
     let e : SFits w32 r.both.s.im = search rules in
-    rw (c.in-First.is, rw (to_z-of_z e) at c.bits32-in-First-3.ensures, rw (to_z-of_z d) at c.bits32-in-First-2.ensures, rw (to_z-of_z b) at c.bits32-in-First.ensures, rw (to_z-of_z a) at c.bits32.ensures)
+    rw (c.in-First.is, rw (to_z-of_z e) at c.to_bits-in-First-3.ensures, rw (to_z-of_z d) at c.to_bits-in-First-2.ensures, rw (to_z-of_z b) at c.to_bits-in-First.ensures, rw (to_z-of_z a) at c.to_bits.ensures)
 
 pub returns-in-Known : goal.returns-in-Known
 unfolding stage_shown
@@ -26,4 +26,4 @@ returns-in-Known c =
     let p = c.in-Known.p in
     let a : SFits w32 p.last.re = search rules in
     let b : SFits w32 p.last.im = search rules in
-    rw (c.in-Known.is, rw (to_z-of_z b) at c.bits32-in-Known-2.ensures, rw (to_z-of_z a) at c.bits32-in-Known.ensures, c.flag-in-Known.ensures, c.flag.ensures)
+    rw (c.in-Known.is, rw (to_z-of_z b) at c.to_bits-in-Known-2.ensures, rw (to_z-of_z a) at c.to_bits-in-Known.ensures, c.flag-in-Known.ensures, c.flag.ensures)
