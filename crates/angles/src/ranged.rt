@@ -13,7 +13,8 @@ pub fn turn_on(a: u32, step: i64) -> u32
     ((v as u64) % 0x1_0000_0000) as u32
 }
 
-// A symbol turned back by an angle, which is given by its cosine and sine, and rounded by s bits.
+// A symbol turned back by an angle, which is given by its cosine and sine, and rounded by s bits. No Symbol goes in: carrier has
+// bytes and phase 16 bits, and both are widened by the caller.
 pub fn turn_back(p: CosSin, i: i64, q: i64, s: u32) -> Parts
     requires { (unsigned_abs p.cos ≤ 32768) × (unsigned_abs p.sin ≤ 32768) × (unsigned_abs i ≤ 32768) × (unsigned_abs q ≤ 32768) × (s ≤ 60) }
     ensures { result ≡ turned_back p i q s }

@@ -40,7 +40,7 @@ pub struct Equations {
     pub b: [f64; 22],
 }
 
-// The 11 unknowns; all 0 after a refusal.
+// The 11 unknowns; all 0 after a refusal, which is a number for C.
 #[repr(C)]
 #[derive(Clone, Copy)]
 pub struct Unknowns {
@@ -83,7 +83,7 @@ pub fn sv_correlate(window: Window, word: OneWord) -> Numbers
     crate::of_two(sync_corr::correlate(window.x, word.w))
 }
 
-// 0 the S word, 1 the F word, any other number the F word negated.
+// 0 the S word, 1 the F word, any other number the F word negated: a number, since C gives it.
 fn word_numbered(n: u8) -> Word
     ensures { result ≡ word_numbered n }
 {

@@ -13,7 +13,7 @@ ghost use Rattle.c_api.specs.Api.{crossed, crossed_two, number, polar_numbers, p
 use fx::{CosSin, Parts, Polar};
 use refusal::Refusal;
 
-// Refusal 0 is an accepted call; after any other the value is 0.
+// Refusal 0 is an accepted call; after any other the value is 0. Here and in the next it is a number, since an enum does not cross to C.
 #[repr(C)]
 #[derive(Clone, Copy)]
 pub struct Number {

@@ -12,7 +12,7 @@ use crate::{Number, Numbers, Two};
 use carrier::Nco;
 use frame_map::SlotPart;
 
-// A rotated symbol and the phase after it; after a refusal the symbol is 0 and the phase as given.
+// A rotated symbol and the phase after it; after a refusal, a number for C, the symbol is 0 and the phase as given.
 #[repr(C)]
 #[derive(Clone, Copy)]
 pub struct Rotation {

@@ -36,8 +36,8 @@ pub(crate) fn table(bytes: &[u8], out: &mut [i16])
     requires { (2177 ≤ length bytes.now) × (length out.old ≡ 1024) }
     ensures { out.new ≡ table_of bytes.now }
 {
-    for i in 0..1024 {
-        out[i] = numbers::short(bytes, 129 + 2 * i);
+    for (i, x) in out.iter_mut().enumerate() {
+        *x = numbers::short(bytes, 129 + 2 * i);
     }
 }
 

@@ -45,7 +45,7 @@ fn kind_fits(n: u8, a: u8, b: u8, c: u8, d: u8) -> bool
     requires { n < 4 }
     ensures { result ≡ kind_fits n a b c d }
 {
-    (a == n + 1) & (b == 0) & (c == 0) & (d == 0)
+    [a, b, c, d] == [n + 1, 0, 0, 0]
 }
 
 // The body length that the kind's entry declares.

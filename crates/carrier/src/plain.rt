@@ -34,8 +34,5 @@ fn steps_in_range(s: Steps) -> bool
 pub(crate) fn in_range(n: Nco) -> bool
     ensures { result ≡ nco_in_range n }
 {
-    match n.trail {
-        None => true,
-        Some(s) => steps_in_range(s),
-    }
+    n.trail.is_none_or(steps_in_range)
 }

@@ -1,4 +1,7 @@
 // For the entries and the receiver, which prove the ranges.
+// The ranges stand in each contract and not in a type with an invariant: a state is handed in by anyone and may be out of range, the entries refuse
+// such a one and hand it back, and such a type could not hold it.
+// The table is lent as a slice of any length, and the entries refuse each but 1,024; so its length stands in the contracts and not in a type.
 ghost use Rattle.std.specs.Prelude.{◌≡◌, ◌+◌, ◌≤◌, ◌^◌, nat_abs, length, Some};
 ghost use Rattle.carrier.specs.Carrier.{rotated_of, tuned, since_head, ssync_heard, trail_heard, heard_of};
 ghost use Rattle.carrier.specs.Ranges.{StepsOk, NcoOk};
@@ -26,13 +29,7 @@ fn tune(freq: i32, sum: i64) -> i32
     ensures { result ≡ tuned freq sum }
 {
     let f = freq as i64 + fx::ranged::round_shift(sum * 246412, 39);
-    if f < -524287 {
-        -524287
-    } else if 524287 < f {
-        524287
-    } else {
-        f as i32
-    }
+    f.clamp(-524287, 524287) as i32
 }
 
 // The trail that an Ssync head of angle theta begins, which no difference follows yet.

@@ -5,6 +5,7 @@ ghost use Rattle.std.specs.Prelude.{◌≡◌, ◌/◌, length};
 ghost use Rattle.refusal.specs.Refusals.{code_of};
 ghost use Rattle.demap.specs.Answers.{block_refusal, block_buffer};
 
+// It answers a number, as C is given it.
 #[unsafe(no_mangle)]
 pub extern "C" fn measure_demap(
     sy: &[i16],

@@ -7,6 +7,7 @@ use in_force::InForce;
 use learn::Learn;
 use wire::Field;
 
+// Here and below the refusal is the number of an answer's bytes.
 fn told(refusal: u8, v: [u64; 9]) -> [u64; 24]
     ensures { result ≡ told refusal v }
 {
@@ -80,6 +81,7 @@ pub(crate) fn figure(f: Option<i64>) -> [u64; 24]
     }
 }
 
+// A number of an answer's bytes: 1, or 0 where there is none.
 fn known(s: Option<u32>) -> u64
     ensures { result ≡ known_of s }
 {

@@ -7,7 +7,7 @@ ghost use Rattle.digest.specs.Digest.{mixed_of, digest_by};
 use wire::Field;
 
 // One more number. The product is made of two halves, since a product may not pass 64 bits.
-fn mixed(d: u64, n: u64) -> u64
+pub fn mixed(d: u64, n: u64) -> u64
     ensures { result ≡ mixed_of d n }
 {
     let low = (d % 0x1_0000_0000) * 2654435761;

@@ -29,6 +29,7 @@ pub struct CSums {
     pub p: [i64; 22],
 }
 
+// The refusal is a number, as C is given it.
 #[repr(C)]
 #[derive(Clone, Copy)]
 pub struct CSolved {
@@ -103,6 +104,7 @@ fn all_in_byte(rows: &[i16; 96]) -> bool
 }
 
 // The symbols of ys through an empty line with the rows of taps, into out: 1; 0 and nothing done where the rows are none, or out is shorter.
+// Numbers, as C is given them.
 #[unsafe(no_mangle)]
 pub extern "C" fn measure_filter(rows: &[i16; 96], ys: &[i16], out: &mut [i16]) -> u8
     ensures { (result ≡ filtered_code rows.now ys.now out.old) × (out.new ≡ filtered_out rows.now ys.now out.old) }

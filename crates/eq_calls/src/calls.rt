@@ -130,6 +130,7 @@ pub(crate) fn load(k: Kept, p: &[u64; 24]) -> Turn
     answer(k, eq::load(k.eq, fields::parts(p), u32::of_bits(p[1])))
 }
 
+// This, `taps`, `upper` and `right` are no plainer as one function, which would be told by a closure what this line tells.
 pub(crate) fn line(k: Kept, p: &[u64; 24]) -> Turn
     ensures { result ≡ line_call k p.now }
 {

@@ -11,7 +11,7 @@ ghost use Rattle.eq_calls.specs.Turns.{same, turn_of};
 
 use kept::{Kept, Turn};
 
-// All as it is; 255 is no refusal of document 01.
+// All as it is; 255 is no refusal of document 01, so what is told is a number, as in the bytes of an answer.
 fn same(k: Kept, refusal: u8) -> Turn
     ensures { result ≡ same k refusal }
 {
@@ -38,7 +38,7 @@ fn other(op: u64, k: Kept, p: &[u64; 24]) -> Turn
     }
 }
 
-// Call `op`, with the numbers of p.
+// Call `op`, with the numbers of p. Which call it is stands as a number in its bytes: an enum of the calls would be one more list of these numbers.
 pub fn turn(op: u64, k: Kept, p: &[u64; 24]) -> Turn
     ensures { result ≡ turn_of op p.now k }
 {

@@ -7,7 +7,8 @@ use refusal::Refusal;
 use sums::Sums;
 use wire::Field;
 
-// The frame of taps: whether there is one, and its number.
+// The frame of taps: whether there is one, and its number. This and frame_wire's `LastShown` are numbers of an answer's bytes, and no plainer as one
+// type: what a number is, its name tells.
 #[derive(Clone, Copy)]
 pub struct From {
     pub known: u64,
@@ -46,7 +47,7 @@ pub fn sums_shown(s: Sums) -> Digests
     }
 }
 
-// The refusal's number, three numbers of the answer, and all that is kept.
+// The refusal's number, as the programs write it, three numbers of the answer, and all that is kept.
 pub(crate) fn told(k: Kept, refusal: u8, x: u64, y: u64, z: u64) -> [u64; 24]
     ensures { result ≡ told_of k refusal x y z }
 {

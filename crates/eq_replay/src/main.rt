@@ -29,7 +29,8 @@ fn replace(k: Kept, buf: &mut [u8], at: usize) -> Kept
     t.kept
 }
 
-// Each call of the first n replaced by its answer.
+// Each call of the first n replaced by its answer. No plainer as one function for all replay programs: the step would be a closure, of whose state no
+// contract says as plainly what it is after n calls.
 fn replay(k: Kept, buf: &mut [u8], n: usize) -> Kept
     requires { 192 * n ≤ length buf.old }
     ensures { (buf.new ≡ replayed k n buf.old) × (result ≡ left_of k n buf.old) }

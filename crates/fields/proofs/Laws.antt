@@ -1,14 +1,18 @@
 -- Laws of the definitions of fields. Assumes nothing.
 use mathlib.Core.List.{List}
 use mathlib.Core.Path.{◌≡◌, refl, sym, ap, ◌∙◌}
-use Prim.Native.Nat.{ℕ, zero, suc, ◌+◌, ◌≤◌}
+use Prim.Native.Nat.{ℕ, zero, suc, ◌+◌, ◌≤◌, min}
 use native.Mathlib.Nat.{le_refl}
 use native.Mathlib.Omega.{arith}
 use borrow.Author.Tests.{ltb-false, ltb-true}
 use lib.ListN.{length, take, drop, drop_of_length-le}
 use lib.Seq.{take_all, length-take-le}
 use Rattle.laws.proofs.Tests.{if_either}
-use mathlib.Core.Bool.{Bool, true, false}
+use mathlib.Core.Bool.{Bool, true, false, not}
+use Rattle.std.specs.Prelude.{None, Some}
+use Rattle.std.specs.Bool.{then_some}
+use Rattle.laws.proofs.Lists.{length-firsts}
+use Rattle.wire.specs.Wire.{byte_at, packed_of}
 use mir.Val.{bool_byte}
 use Rattle.laws.specs.Choice.{when◌then◌else◌}
 use Rattle.fields.specs.Fields.{flag_of, least_of}
@@ -19,7 +23,22 @@ unfolding flag_of when◌then◌else◌
 flag_byte true = refl
 flag_byte false = refl
 
+-- ---- what is there unless a test says that it is not
+pub unless : {A : Type 0} (t : Bool) (x : A) → then_some (not t) x ≡ (when t then None else Some x)
+unfolding when◌then◌else◌
+unless true x = refl
+unless false x = refl
+
+-- ---- an answer of numbers has 192 bytes, as a call has
+pub length_packed : (p : List ℕ) → length (packed_of p) ≡ 192
+unfolding packed_of
+length_packed p = length-firsts (byte_at p) 192
+
 -- ---- as many entries as there are
+pub min_least : (n all : ℕ) → min n all ≡ least_of n all
+unfolding least_of
+min_least n all = if_either (λ (k : ℕ). min n all ≡ k) _ _ _ (λ t. omega (arith, ltb-true n all t)) (λ t. omega (arith, ltb-false n all t))
+
 pub take_least : {A : Type 0} (n : ℕ) (l : List A) → take (least_of n (length l)) l ≡ take n l
 unfolding least_of
 take_least n l = if_either (λ (k : ℕ). take k l ≡ take n l) _ _ _ (λ t. refl) (λ t. take_all (length l) l (le_refl _) ∙ sym (take_all n l (ltb-false n (length l) t)))

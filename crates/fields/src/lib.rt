@@ -31,7 +31,7 @@ pub fn parts<T: Field>(p: &[u64; 24]) -> [T; 22]
 pub fn least(n: u64, all: usize) -> usize
     ensures { (result ≡ least_of n all) × (result ≤ all) }
 {
-    if n < (all as u64) { n as usize } else { all }
+    n.min(all as u64) as usize
 }
 
 // Entry p[1] set to p[2], if there is one.
@@ -44,34 +44,11 @@ pub fn set<T: Field + Copy>(p: &[u64; 24], l: &mut [T])
     }
 }
 
-// A refusal, or 0, and three numbers.
+// A refusal's number, or 0, and three numbers. It is a number, since it stands so in the bytes of an answer, where 255 is no refusal of document 01.
 pub fn four(refusal: u8, x: u64, y: u64, z: u64) -> [u64; 24]
     ensures { result ≡ four_told refusal x y z }
 {
-    [
-        refusal as u64,
-        x,
-        y,
-        z,
-        0,
-        0,
-        0,
-        0,
-        0,
-        0,
-        0,
-        0,
-        0,
-        0,
-        0,
-        0,
-        0,
-        0,
-        0,
-        0,
-        0,
-        0,
-        0,
-        0,
-    ]
+    let mut told = [0; 24];
+    told[..4].copy_from_slice(&[u64::from(refusal), x, y, z]);
+    told
 }

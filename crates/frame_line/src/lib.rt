@@ -16,6 +16,7 @@ pub struct Meta {
 }
 
 // Up to five waiting symbols, the oldest first; places behind them are not looked at.
+// Five names and a count in the stead of a list: a rule of the project keeps no heap, and the definitions of crate frame_line (`moved`, `joined`) name these fields.
 #[derive(Clone, Copy)]
 pub struct Metas {
     pub count: u32,

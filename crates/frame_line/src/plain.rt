@@ -26,6 +26,7 @@ pub fn none() -> Metas
     }
 }
 
+// Field by field, since a Corrected has its value besides. A From would hold the same four lines, and crate frame calls this name.
 pub fn meta_of(c: Corrected) -> Meta
     ensures { result ≡ meta_of c }
 {

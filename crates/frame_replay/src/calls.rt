@@ -16,7 +16,7 @@ fn no_meta() -> Meta
     w.first
 }
 
-// A refusal, or 0, and what is kept.
+// A refusal, or 0, as the number of an answer's bytes, and what is kept.
 pub(crate) fn plain(k: Kept, refusal: u8) -> Turn
     ensures { result ≡ plain k refusal }
 {

@@ -7,7 +7,7 @@ use eq::Equaliser;
 use eq_calls::told::{Digests, From};
 use frame_line::Meta;
 
-// An equaliser: digests of line and taps, the fill, the taps' frame, whether sums are open, and these.
+// An equaliser: digests of line and taps, the fill, the taps' frame, whether sums are open, and these: numbers of an answer's bytes.
 #[derive(Clone, Copy)]
 pub struct EqShown {
     pub line: u64,
@@ -40,7 +40,7 @@ fn eq_shown(e: Equaliser) -> EqShown
     }
 }
 
-// The refusal, a symbol that there may be, how many wait, the last position, the equaliser.
+// The refusal, as the number of an answer's bytes, a symbol that there may be, how many wait, the last position, the equaliser.
 pub(crate) fn told(k: Kept, refusal: u8, given: u64, m: Meta, i: u64, q: u64) -> [u64; 24]
     ensures { result ≡ told_of k refusal given m i q }
 {

@@ -9,7 +9,7 @@ ghost use Rattle.frame_wire.specs.Line.{last_of, count_put, last_shown};
 use frame_line::Metas;
 use wire::Field;
 
-// Whether there is a last position, and that position.
+// Whether there is a last position, and that position: numbers of the bytes of an answer.
 #[derive(Clone, Copy)]
 pub struct LastShown {
     pub known: u64,
@@ -29,25 +29,15 @@ pub fn last_shown(l: Option<u64>) -> LastShown
 pub fn last_at(p: &[u64; 24]) -> Option<u64>
     ensures { result ≡ last_of p.now }
 {
-    if p[2] == 0 { None } else { Some(p[3]) }
+    (p[2] != 0).then_some(p[3])
 }
 
 // As many symbols that wait as number 1 tells.
 pub fn count_put(w: Metas, p: &[u64; 24]) -> Metas
     ensures { result ≡ count_put w p.now }
 {
-    let first = w.first;
-    let second = w.second;
-    let third = w.third;
-    let fourth = w.fourth;
-    let fifth = w.fifth;
-    let count = u32::of_bits(p[1]);
     Metas {
-        count: count,
-        first: first,
-        second: second,
-        third: third,
-        fourth: fourth,
-        fifth: fifth,
+        count: u32::of_bits(p[1]),
+        ..w
     }
 }

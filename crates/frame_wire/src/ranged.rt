@@ -10,12 +10,10 @@ pub fn meta_at(p: &[u64; 24], k: usize) -> Meta
     requires { k + 6 ≤ 24 }
     ensures { result ≡ meta_at p.now k }
 {
-    let w = slot_wire::word_of(p[k + 1]);
-    let s = slot_wire::ranged::slot_at(p, k + 2);
     Meta {
         at: p[k],
         j: u16::of_bits(p[k + 5]),
-        word: w,
-        slot: s,
+        word: slot_wire::word_of(p[k + 1]),
+        slot: slot_wire::ranged::slot_at(p, k + 2),
     }
 }

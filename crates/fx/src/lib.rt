@@ -27,6 +27,7 @@ pub struct Turn {
     pub z: u32,
 }
 
+// This and the next are not one generic pair: their fields' names say what each number is, and the contracts read by them.
 #[derive(Clone, Copy)]
 pub struct Parts {
     pub re: i64,
@@ -135,14 +136,11 @@ pub fn cordic_scale(re: i64, im: i64) -> Result<Parts, Refusal>
 pub fn signed_angle(a: u32) -> i64
     ensures { result ≡ signed_angle a }
 {
-    if a < 2147483648 {
-        a as i64
-    } else {
-        a as i64 - 4294967296
-    }
+    a.cast_signed() as i64
 }
 
-// Cosine and sine at the table's entry at or before an angle.
+// Cosine and sine at the table's entry at or before an angle. Not one function over the index with the next: the nearest entry's index is worked out
+// in `ranged::cos_sin_round`, which carrier and phase call, and would then be worked out in two places.
 pub fn cos_sin_trunc(table: &[i16], a: u32) -> Result<CosSin, Refusal>
     ensures { result ≡ cos_sin_trunc_answer table.now a }
 {

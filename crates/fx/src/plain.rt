@@ -12,6 +12,7 @@ pub fn wide(v: i64) -> bool
     sizes::wide(v)
 }
 
+// Three functions and no generic one: it would need a trait for the bounds and the narrowing cast, and each of these is one line.
 pub fn sat16(v: i64) -> i16
     ensures { result ≡ sat16_of v }
 {

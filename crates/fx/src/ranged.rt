@@ -1,4 +1,5 @@
 // The functions of this crate that crates above call with arguments in range: plain values, by the entries' own definitions.
+// The table is lent as a slice of any length, and the entries refuse each but 1,024; so its length stands in the contracts and not in a type.
 ghost use Rattle.std.specs.Prelude.{◌≡◌, ◌+◌, ◌^◌, ◌<◌, ◌≤◌, false, length, pos, int_lt, unsigned_abs};
 ghost use Rattle.fx.specs.Fx.{round_shift, div_round, mag_approx, round_index, cos_sin_at};
 ghost use Rattle.fx.specs.Cordic.{cordic_of};
@@ -41,8 +42,7 @@ pub fn cordic(re: i64, im: i64) -> Polar
     ensures { result ≡ cordic_of re im }
 {
     let t = turns::turned(re, im);
-    let x = t.x;
-    let size = round_shift(x * 39797, 24);
+    let size = round_shift(t.x * 39797, 24);
     Polar { angle: t.z, size }
 }
 

@@ -14,6 +14,7 @@ pub(crate) fn wide(v: i64) -> bool
     LIMIT < v.unsigned_abs()
 }
 
+// Not one function with the next: the one bound is the largest taken and the other the least that is not, as in `wide` and `outside`.
 pub(crate) fn wide2(a: i64, b: i64) -> bool
     ensures { result ≡ (wide a || wide b) }
 {

@@ -17,7 +17,8 @@ fn single(n: Number) -> Numbers
     }
 }
 
-// The answer of function op; 255 is no refusal of document 01. The low half of a field is its u32.
+// The answer of function op, which stands as a number in the call's bytes: an enum of the functions would be one more list of these numbers. 255 is
+// no refusal of document 01. The low half of a field is its u32.
 fn answer(table: &[i16], op: u64, a: u64, b: u64) -> Numbers
     ensures { result ≡ answer_of table.now op a b }
 {

@@ -15,7 +15,8 @@ use std::io::Write;
 // 1,024 calls.
 const BLOCK: usize = 24576;
 
-// Each call of the first n replaced by its answer.
+// Each call of the first n replaced by its answer. No plainer as one function for all replay programs: the step would be a closure, of whose state no
+// contract says as plainly what it is after n calls.
 fn replay(table: &[i16], buf: &mut [u8], n: usize)
     requires { 24 * n ≤ length buf.old }
     ensures { buf.new ≡ replayed table.now n buf.old }

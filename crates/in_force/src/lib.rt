@@ -66,7 +66,7 @@ pub fn next(
     }
 }
 
-// The points of a set: a part of one of the two slices, not copied.
+// The points of a set: a part of one of the two slices, not copied. The flags say which sets are learned, since the points are the caller's memory.
 pub fn points_in_force<'a>(
     learned: &'a [i16],
     nominal: &'a [i16],

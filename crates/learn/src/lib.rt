@@ -14,6 +14,7 @@ ghost use Rattle.learn.specs.Answers.{pilot_answer, noise_answer, points_answer,
 use refusal::{Refusal, Refused};
 
 // Two sums and a count to a label; the sum and the number of the noise samples.
+// They are flat arrays, as `new_learn` and `learn_in_range` name them. A rule of the project keeps no heap.
 #[derive(Clone, Copy)]
 pub struct Learn {
     pub sum: [i64; 124],

@@ -24,7 +24,7 @@ fn period(out: &mut [u8], at: usize, p: SyncStats) -> usize
     put::number_then(out, d, u64::from(p.offset.is_some()), b'\n')
 }
 
-// S, F or N.
+// S, F or N: the byte of a line, which a `Display` would write to a place that no contract names.
 fn letter(w: Word) -> u8
     ensures { result ≡ letter_of w }
 {

@@ -28,6 +28,7 @@ fn decimal(n: u64, out: &mut [u8; 20]) -> usize
     let mut i: usize = 19;
     let mut rest = n / 10;
     out[19] = b'0' + (n % 10) as u8;
+    // As long as digits are left: no index is counted.
     while 0 < rest {
         i -= 1;
         out[i] = b'0' + (rest % 10) as u8;

@@ -13,7 +13,7 @@ use angles::Symbol;
 use refusal::{Refusal, Refused};
 use sync_heads::{Head, SlotNumber, Word};
 
-// The current slot's head, and how many of its symbols came.
+// The current slot's head, and how many of its symbols came. The count stands here, not with the store: that is the caller's memory, lent for a call.
 #[derive(Clone, Copy)]
 pub struct Held {
     pub head: Head,

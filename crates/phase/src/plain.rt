@@ -22,8 +22,5 @@ fn held_in_range(x: Held) -> bool
 pub(crate) fn in_range(s: Option<Held>) -> bool
     ensures { result ≡ phase_in_range s }
 {
-    match s {
-        None => true,
-        Some(x) => held_in_range(x),
-    }
+    s.is_none_or(held_in_range)
 }

@@ -1,4 +1,7 @@
 // For the entries and the receiver, which prove the ranges.
+// The ranges stand in each contract and not in a type with an invariant: a state is handed in by anyone and may be out of range, the entries refuse
+// such a one and hand it back, and such a type could not hold it.
+// Table and store are lent as slices of any length, and the entries refuse each but 1,024 and 18,592; so their lengths stand in the contracts.
 ghost use Rattle.std.specs.Prelude.{◌≡◌, ◌+◌, ◌≤◌, ◌<◌, ◌^◌, nat_abs, length};
 ghost use Rattle.phase.specs.Phase.{gain_of, per_symbol, whole_of, due_of, pushed_of, stored_of, phase_at, gain_at, scaled_of, corrected_of};
 ghost use Rattle.phase.specs.Ranges.{HeadOk, PhaseOk, WholeOk};

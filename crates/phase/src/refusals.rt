@@ -17,10 +17,7 @@ fn held_past(x: Held) -> bool
 fn past_end(s: Option<Held>) -> bool
     ensures { result ≡ past_end s }
 {
-    match s {
-        None => false,
-        Some(x) => held_past(x),
-    }
+    s.is_some_and(held_past)
 }
 
 pub(crate) fn push(s: Option<Held>, len: usize) -> Result<(), Refusal>

@@ -90,6 +90,7 @@ fn due(theta: u32, amp: i64, next: u32, last: i64) -> Option<WholeSlot>
 }
 
 // A slot between heads of these angles and magnitudes, corrected into places of its length: 0, or why not; 1 where a length is another.
+// A number, as C is given it.
 #[unsafe(no_mangle)]
 pub extern "C" fn measure_correct(
     theta: u32,

@@ -5,7 +5,8 @@ ghost use Rattle.phase_replay.specs.Replay.{answer_of, table_of, store_of, answe
 
 use crate::{calls, told};
 
-// The answer to a call that writes nothing; 255 is no refusal of document 01.
+// The answer to a call that writes nothing; 255 is no refusal of document 01. Which call it is stands as a number in its bytes: an enum of the calls
+// would be one more list of these numbers.
 fn answer(op: u64, p: &[u64; 24], table: &[i16], store: &[i16]) -> [u64; 24]
     requires { Reads op }
     ensures { result ≡ answer_of op p.now table.now store.now }

@@ -18,7 +18,8 @@ use std::io::Write;
 // 256 calls.
 const BLOCK: usize = 49152;
 
-// Each call of the first n replaced by its answer.
+// Each call of the first n replaced by its answer. No plainer as one function for all replay programs: the step would be a closure, of whose state no
+// contract says as plainly what it is after n calls.
 fn replay(buf: &mut [u8], n: usize, table: &mut [i16], store: &mut [i16])
     requires { 192 * n ≤ length buf.old }
     ensures { (buf.new ≡ replayed (lent table.old store.old) n buf.old)

@@ -10,27 +10,19 @@ use refusal::Refusal;
 fn front_within(a: Front) -> bool
     ensures { result ≡ front_within a }
 {
-    let n = a.nco;
-    let y = a.sync;
-    let win = y.win;
-    let r = y.run;
-    let s = a.phase;
-    receiver_bounds::plain::nco_within(n)
-        & receiver_bounds::ranged::window_within(&win)
-        & receiver_bounds::plain::run_within(r)
-        & receiver_bounds::plain::phase_within(s)
+    receiver_bounds::plain::nco_within(a.nco)
+        & receiver_bounds::ranged::window_within(&a.sync.win)
+        & receiver_bounds::plain::run_within(a.sync.run)
+        & receiver_bounds::plain::phase_within(a.phase)
 }
 
 // Every number in the range that receiver calls leave.
 pub fn receiver_within(r: Receiver) -> bool
     ensures { result ≡ receiver_in_range r }
 {
-    let a = r.front;
-    let b = r.back;
-    let p = r.points;
-    front_within(a)
-        & receiver_bounds::plain::back_within(b)
-        & receiver_bounds::plain::points_within(p)
+    front_within(r.front)
+        & receiver_bounds::plain::back_within(r.back)
+        & receiver_bounds::plain::points_within(r.points)
 }
 
 pub fn range_refusal(r: Receiver) -> Result<(), Refusal>
@@ -47,19 +39,14 @@ pub fn range_refusal(r: Receiver) -> Result<(), Refusal>
 pub fn started(at: u64, k: Kept) -> Receiver
     ensures { result ≡ started at k }
 {
-    let freq = k.freq;
-    let taps = k.taps;
-    let from = k.from;
-    let points = k.points;
-    let last = k.last;
     Receiver {
         front: Front {
-            nco: carrier::plain::started(k.phase, freq),
-            sync: sync::plain::started(at, last),
+            nco: carrier::plain::started(k.phase, k.freq),
+            sync: sync::plain::started(at, k.last),
             phase: None,
         },
-        back: frame::plain::started(eq::plain::started(taps, from)),
-        points: points,
+        back: frame::plain::started(eq::plain::started(k.taps, k.from)),
+        points: k.points,
     }
 }
 

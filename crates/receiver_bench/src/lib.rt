@@ -19,7 +19,7 @@ pub struct Words {
     pub s: [i8; 48],
 }
 
-// Symbols taken, and the refusal of the last call.
+// Symbols taken, and the refusal of the last call, as the number that C is given.
 #[repr(C)]
 #[derive(Clone, Copy)]
 pub struct Received {
@@ -27,7 +27,7 @@ pub struct Received {
     pub refusal: u8,
 }
 
-// A receiver, and the refusal of its last call.
+// A receiver, and the refusal of its last call, as it goes into `Received`.
 #[derive(Clone, Copy)]
 struct Begun {
     receiver: Receiver,

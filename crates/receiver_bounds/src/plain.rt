@@ -36,10 +36,7 @@ fn steps_within(s: Steps) -> bool
 pub fn nco_within(n: Nco) -> bool
     ensures { result ≡ nco_within n }
 {
-    match n.trail {
-        None => true,
-        Some(s) => steps_within(s),
-    }
+    n.trail.is_none_or(steps_within)
 }
 
 fn right_within(p: &[i64; 22]) -> bool
@@ -159,13 +156,11 @@ fn metas_within(w: Metas) -> bool
             & meta_within(4, w.fifth))
 }
 
+#[tactic(auto, using(laws::specs::Choice::cases), unfolding(crate::specs::Bounds::within, crate::specs::Bounds::last_within))]
 fn last_within(l: Option<u64>) -> bool
     ensures { result ≡ last_within l }
 {
-    match l {
-        None => true,
-        Some(a) => between(55775, 4611686018427387879, a),
-    }
+    l.is_none_or(|a| between(55775, 4611686018427387879, a))
 }
 
 pub fn back_within(b: Back) -> bool

@@ -79,7 +79,7 @@ pub(crate) fn open(k: Kept, p: &[u64; 24]) -> Turn
     answered(k, receiver::open_sums(k.receiver, u32::of_bits(p[1])))
 }
 
-// Zeros are kept and told where no sums ended.
+// Zeros are kept and told where no sums ended; the refusal is the number of an answer's bytes.
 fn ended(k: Kept, r: Receiver, sums: Option<Sums>, refusal: u8) -> Turn
     ensures { result ≡ ended_turn k r sums refusal }
 {
@@ -104,6 +104,7 @@ pub(crate) fn end(k: Kept) -> Turn
     }
 }
 
+// Which event, is a number of a call.
 fn event_at(e: Events, n: u64) -> Event
     ensures { result ≡ event_at e n }
 {

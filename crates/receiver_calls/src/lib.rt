@@ -15,7 +15,7 @@ use receiver::Receiver;
 use receiver_play::Played;
 use refusal::Refused;
 
-// A refusal, or 0, alone.
+// A refusal, or 0, as the number of an answer's bytes, alone.
 pub fn plain(k: Kept, refusal: u8) -> Turn
     ensures { result ≡ plain k refusal }
 {
@@ -50,7 +50,7 @@ pub fn played(k: Kept, a: Played) -> Turn
     }
 }
 
-// A call that takes no store; 255 is no refusal of document 01.
+// A call that takes no store, by its number in the bytes of calls; 255 is no refusal of document 01.
 fn free(n: u64, k: Kept, p: &[u64; 24]) -> Turn
     ensures { result ≡ plain_of n p.now k }
 {

@@ -6,6 +6,7 @@ use receiver_slot::Runs;
 use sums::Sums;
 use sync_step::{Event, Events, SyncStats};
 
+// The numbers stand in the order of the bytes of answers; rows of another length hold them in sync_replay.
 fn period(p: SyncStats) -> [u64; 24]
     ensures { result ≡ period_told p }
 {
@@ -49,6 +50,7 @@ pub(crate) fn event(e: Event) -> [u64; 24]
     }
 }
 
+// The kinds of events by their numbers in the bytes of answers.
 fn kind(e: Event) -> u64
     ensures { result ≡ kind_of e }
 {
@@ -60,7 +62,7 @@ fn kind(e: Event) -> u64
     }
 }
 
-// What a play comes to: the kinds of its events, and the runs.
+// What a play comes to: the refusal as the number of an answer's bytes, the kinds of its events, and the runs.
 pub(crate) fn played(refusal: u8, used: usize, es: Events, runs: Runs) -> [u64; 24]
     ensures { result ≡ played_told refusal used es runs }
 {
@@ -94,7 +96,7 @@ pub(crate) fn played(refusal: u8, used: usize, es: Events, runs: Runs) -> [u64; 
     ]
 }
 
-// Whether sums ended, and these.
+// The refusal likewise, whether sums ended, and these.
 pub(crate) fn ended(refusal: u8, ended: bool, sums: Sums) -> [u64; 24]
     ensures { result ≡ ended_told refusal ended sums }
 {

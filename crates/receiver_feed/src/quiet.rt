@@ -55,6 +55,7 @@ fn quiet(
     let mut a = phase;
     let mut end = n;
     let mut k: usize = 0;
+    // The end moves with the figures, and a `for` takes its end once.
     while k < end {
         let z = carrier::ranged::rotated(table, a, bytes[2 * (i + k)], bytes[2 * (i + k) + 1]);
         y = sync_block::ranged::one(y, win, z.i, z.q, p + k, rows, acc);

@@ -8,6 +8,7 @@ pub mod ranged;
 use frame::Back;
 
 // The loaded constellation: 2^bits points as pairs in the order of their labels, zeros behind them. Before a load bits is 0.
+// Bits and numbers stand beside each other: the memory is fixed for any bits, since a rule of the project keeps no heap.
 #[derive(Clone, Copy)]
 pub struct Points {
     pub bits: u8,

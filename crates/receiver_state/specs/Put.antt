@@ -8,7 +8,7 @@ use Rattle.phase_wire.specs.Given.{nco_of, phase_of}
 use Rattle.sync_wire.specs.Given.{run_put, heads_put, window_of}
 use Rattle.frame_wire.specs.Line.{meta_at, last_of, count_put}
 use Rattle.receiver.specs.declared.Receiver.{Receiver}
-use Rattle.receiver_state.specs.With.{with_nco, with_sync, with_phase, with_line, with_points, meta_put}
+use Rattle.receiver_state.specs.With.{with_nco, with_run, with_window, with_phase, with_line, with_points, meta_put}
 
 unfoldable pub carrier_put : Receiver → List ℕ → Receiver
 carrier_put r p = with_nco r (nco_of p)
@@ -17,13 +17,13 @@ unfoldable pub phase_put : Receiver → List ℕ → Receiver
 phase_put r p = with_phase r (phase_of p)
 
 unfoldable pub run_put_in : Receiver → List ℕ → Receiver
-run_put_in r p = with_sync r (record { win = r.front.sync.win; run = run_put r.front.sync.run p })
+run_put_in r p = with_run r (run_put r.front.sync.run p)
 
 unfoldable pub heads_put_in : Receiver → List ℕ → Receiver
-heads_put_in r p = with_sync r (record { win = r.front.sync.win; run = heads_put r.front.sync.run p })
+heads_put_in r p = with_run r (heads_put r.front.sync.run p)
 
 unfoldable pub window_put : Receiver → List ℕ → Receiver
-window_put r p = with_sync r (record { win = window_of (packed_of p); run = r.front.sync.run })
+window_put r p = with_window r (window_of (packed_of p))
 
 -- how many wait and the last position, numbers 1 to 3; number 4 tells which of them the numbers from 5 on are
 unfoldable pub waiting_put : Receiver → List ℕ → Receiver

@@ -1,9 +1,10 @@
 -- A receiver with a part replaced.
 use Rattle.phase.specs.declared.Held.{Held}
-use Rattle.std.specs.Prelude.{ℕ, eqb, leb, Option}
+use Rattle.std.specs.Prelude.{ℕ, List, ℤ, eqb, leb, Option}
 use Rattle.laws.specs.Choice.{when◌then◌else◌}
 use Rattle.carrier.specs.declared.Nco.{Nco}
 use Rattle.sync.specs.declared.SlotSync.{SlotSync}
+use Rattle.sync_step.specs.declared.Run.{Run}
 use Rattle.frame_line.specs.declared.Meta.{Meta}
 use Rattle.frame_line.specs.declared.Metas.{Metas}
 use Rattle.receiver_slot.specs.declared.Points.{Points}
@@ -18,6 +19,12 @@ with_nco r n = with_front r (record { nco = n; sync = r.front.sync; phase = r.fr
 
 abbrev pub with_sync : Receiver → SlotSync → Receiver
 with_sync r y = with_front r (record { nco = r.front.nco; sync = y; phase = r.front.phase })
+
+abbrev pub with_run : Receiver → Run → Receiver
+with_run r n = with_sync r (record { win = r.front.sync.win; run = n })
+
+abbrev pub with_window : Receiver → List ℤ → Receiver
+with_window r win = with_sync r (record { win = win; run = r.front.sync.run })
 
 abbrev pub with_phase : Receiver → Option Held → Receiver
 with_phase r s = with_front r (record { nco = r.front.nco; sync = r.front.sync; phase = s })

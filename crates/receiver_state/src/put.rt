@@ -1,11 +1,10 @@
 // A part replaced by the numbers of a call.
-ghost use Rattle.std.specs.Prelude.{◌≡◌, length};
-ghost use Rattle.receiver_state.specs.Put.{carrier_put, phase_put, run_put_in, heads_put_in, window_put, waiting_put, points_of, points_put, part_put};
+ghost use Rattle.std.specs.Prelude.{◌≡◌, ◌+◌, ◌*◌, ◌<◌};
+ghost use Rattle.receiver_state.specs.Put.{carrier_put, phase_put, run_put_in, heads_put_in, window_put, waiting_put, point_at, points_of, points_put, part_put};
 
 use crate::with;
 use receiver::Receiver;
 use receiver_slot::Points;
-use sync::SlotSync;
 use wire::Field;
 
 fn carrier(r: Receiver, p: &[u64; 24]) -> Receiver
@@ -23,78 +22,57 @@ fn phase(r: Receiver, p: &[u64; 24]) -> Receiver
 fn run(r: Receiver, p: &[u64; 24]) -> Receiver
     ensures { result ≡ run_put_in r p.now }
 {
-    let y = r.front.sync;
-    let win = y.win;
-    let x = y.run;
-    let n = sync_wire::run_put(x, p);
-    with::sync(r, SlotSync { win: win, run: n })
+    with::run(r, sync_wire::run_put(r.front.sync.run, p))
 }
 
 fn heads(r: Receiver, p: &[u64; 24]) -> Receiver
     ensures { result ≡ heads_put_in r p.now }
 {
-    let y = r.front.sync;
-    let win = y.win;
-    let x = y.run;
-    let n = sync_wire::heads_put(x, p);
-    with::sync(r, SlotSync { win: win, run: n })
+    with::run(r, sync_wire::heads_put(r.front.sync.run, p))
 }
 
 fn window(r: Receiver, p: &[u64; 24]) -> Receiver
     ensures { result ≡ window_put r p.now }
 {
-    let bytes = wire::packed(p);
-    let win = sync_wire::window_at(&bytes);
-    let y = r.front.sync;
-    let x = y.run;
-    with::sync(r, SlotSync { win: win, run: x })
+    with::window(r, sync_wire::window_at(&wire::packed(p)))
 }
 
 // How many wait and the last position, numbers 1 to 3; one of those that wait, numbers 4 to 10.
 fn waiting(r: Receiver, p: &[u64; 24]) -> Receiver
     ensures { result ≡ waiting_put r p.now }
 {
-    let b = r.back;
-    let w = b.metas;
     let m = frame_wire::ranged::meta_at(p, 5);
-    let v = with::meta(frame_wire::count_put(w, p), p[4], m);
+    let v = with::meta(frame_wire::count_put(r.back.metas, p), p[4], m);
     with::line(r, v, frame_wire::last_at(p))
-}
-
-// Zeros to fill. A function, since a contract gives a proof the length and no more.
-fn no_points() -> [i16; 64]
-    ensures { length result ≡ 64 }
-{
-    [0; 64]
 }
 
 // The points of the bytes from 32 on.
 fn points_at(bytes: &[u8; 192]) -> [i16; 64]
     ensures { result ≡ points_of bytes.now }
 {
-    let mut t = no_points();
-    for k in 0..64 {
-        t[k] = fields::ranged::pair_at(bytes, 32 + 2 * k);
-    }
-    t
+    std::array::from_fn(
+        |k: usize| -> i16
+            requires { k < 64 }
+            ensures { result ≡ point_at bytes.entry.now k }
+        { fields::ranged::pair_at(bytes, 32 + 2 * k) },
+    )
 }
 
 // Bits and scale, numbers 1 and 2, and the points.
 fn points(r: Receiver, p: &[u64; 24]) -> Receiver
     ensures { result ≡ points_put r p.now }
 {
-    let bytes = wire::packed(p);
-    let t = points_at(&bytes);
     with::points(
         r,
         Points {
             bits: u8::of_bits(p[1]),
-            points: t,
+            points: points_at(&wire::packed(p)),
             k: u32::of_bits(p[2]),
         },
     )
 }
 
+// The calls that replace a part, by their numbers in the bytes of calls.
 pub(crate) fn part(n: u64, r: Receiver, p: &[u64; 24]) -> Receiver
     ensures { result ≡ part_put n p.now r }
 {

@@ -8,12 +8,10 @@ use receiver::Receiver;
 fn window(r: Receiver) -> [u64; 24]
     ensures { result ≡ window_told r }
 {
-    let y = r.front.sync;
-    let win = y.win;
-    fields::four(0, digest::of(&win), 0, 0)
+    fields::four(0, digest::of(&r.front.sync.win), 0, 0)
 }
 
-// One of the five that wait.
+// One of the five that wait; which, is a number of a call.
 fn meta(w: Metas, k: u64) -> Meta
     ensures { result ≡ meta_at_of w k }
 {
@@ -30,14 +28,10 @@ fn meta(w: Metas, k: u64) -> Meta
 fn waiting(r: Receiver, k: u64) -> [u64; 24]
     ensures { result ≡ waiting_told r k }
 {
-    let b = r.back;
-    let w = b.metas;
-    let l = b.last;
-    let x = frame_wire::last_shown(l);
+    let w = r.back.metas;
+    let x = frame_wire::last_shown(r.back.last);
     let m = meta(w, k);
-    let d = m.word;
-    let s = m.slot;
-    let y = slot_wire::slot_shown(s);
+    let y = slot_wire::slot_shown(m.slot);
     [
         0,
         w.count as u64,
@@ -45,7 +39,7 @@ fn waiting(r: Receiver, k: u64) -> [u64; 24]
         x.at,
         0,
         m.at,
-        slot_wire::word_number(d),
+        slot_wire::word_number(m.word),
         y.known,
         y.number,
         y.frame,
@@ -70,24 +64,19 @@ fn points(r: Receiver) -> [u64; 24]
     ensures { result ≡ points_told r }
 {
     let q = r.points;
-    let t = q.points;
-    fields::four(0, q.bits as u64, q.k as u64, digest::of(&t))
+    fields::four(0, q.bits as u64, q.k as u64, digest::of(&q.points))
 }
 
-// 255 is no refusal of document 01.
+// Which part, is a number of a call. 255 is no refusal of document 01.
 pub(crate) fn part(k: u64, r: Receiver, p: &[u64; 24]) -> [u64; 24]
     ensures { result ≡ part_told k p.now r }
 {
     let a = r.front;
-    let n = a.nco;
-    let s = a.phase;
-    let y = a.sync;
-    let x = y.run;
     match k {
-        0 => phase_wire::told::nco(0, n, 0, 0),
-        1 => phase_wire::told::phase(0, s),
-        2 => sync_wire::told::run(x),
-        3 => sync_wire::told::heads(x),
+        0 => phase_wire::told::nco(0, a.nco, 0, 0),
+        1 => phase_wire::told::phase(0, a.phase),
+        2 => sync_wire::told::run(a.sync.run),
+        3 => sync_wire::told::heads(a.sync.run),
         4 => window(r),
         5 => waiting(r, p[4]),
         6 => points(r),

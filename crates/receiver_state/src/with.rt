@@ -1,6 +1,6 @@
 // A receiver with a part replaced.
 ghost use Rattle.std.specs.Prelude.{◌≡◌};
-ghost use Rattle.receiver_state.specs.With.{with_front, with_nco, with_sync, with_phase, with_line, with_points, meta_put};
+ghost use Rattle.receiver_state.specs.With.{with_front, with_nco, with_sync, with_run, with_window, with_phase, with_line, with_points, meta_put};
 ghost use Rattle.laws.specs.Choice.{when◌then◌else◌};
 
 use carrier::Nco;
@@ -10,47 +10,48 @@ use phase::Held;
 use receiver::{Front, Receiver};
 use receiver_slot::Points;
 use sync::SlotSync;
+use sync_step::Run;
 
 fn front(r: Receiver, a: Front) -> Receiver
     ensures { result ≡ with_front r a }
 {
-    let b = r.back;
-    let p = r.points;
-    Receiver {
-        front: a,
-        back: b,
-        points: p,
-    }
+    Receiver { front: a, ..r }
 }
 
 pub(crate) fn nco(r: Receiver, n: Nco) -> Receiver
     ensures { result ≡ with_nco r n }
 {
-    let a = r.front;
-    let y = a.sync;
-    let s = a.phase;
-    front(
+    front(r, Front { nco: n, ..r.front })
+}
+
+fn sync(r: Receiver, y: SlotSync) -> Receiver
+    ensures { result ≡ with_sync r y }
+{
+    front(r, Front { sync: y, ..r.front })
+}
+
+// Another run of the slot sync.
+pub(crate) fn run(r: Receiver, n: Run) -> Receiver
+    ensures { result ≡ with_run r n }
+{
+    sync(
         r,
-        Front {
-            nco: n,
-            sync: y,
-            phase: s,
+        SlotSync {
+            run: n,
+            ..r.front.sync
         },
     )
 }
 
-pub(crate) fn sync(r: Receiver, y: SlotSync) -> Receiver
-    ensures { result ≡ with_sync r y }
+// Another window of the slot sync.
+pub(crate) fn window(r: Receiver, win: [i16; 48]) -> Receiver
+    ensures { result ≡ with_window r win }
 {
-    let a = r.front;
-    let n = a.nco;
-    let s = a.phase;
-    front(
+    sync(
         r,
-        Front {
-            nco: n,
-            sync: y,
-            phase: s,
+        SlotSync {
+            win,
+            ..r.front.sync
         },
     )
 }
@@ -58,15 +59,11 @@ pub(crate) fn sync(r: Receiver, y: SlotSync) -> Receiver
 pub(crate) fn phase(r: Receiver, s: Option<Held>) -> Receiver
     ensures { result ≡ with_phase r s }
 {
-    let a = r.front;
-    let n = a.nco;
-    let y = a.sync;
     front(
         r,
         Front {
-            nco: n,
-            sync: y,
             phase: s,
+            ..r.front
         },
     )
 }
@@ -75,31 +72,20 @@ pub(crate) fn phase(r: Receiver, s: Option<Held>) -> Receiver
 pub(crate) fn line(r: Receiver, w: Metas, last: Option<u64>) -> Receiver
     ensures { result ≡ with_line r w last }
 {
-    let a = r.front;
-    let b = r.back;
-    let e = b.eq;
-    let p = r.points;
     Receiver {
-        front: a,
         back: Back {
-            eq: e,
             metas: w,
-            last: last,
+            last,
+            ..r.back
         },
-        points: p,
+        ..r
     }
 }
 
 pub(crate) fn points(r: Receiver, p: Points) -> Receiver
     ensures { result ≡ with_points r p }
 {
-    let a = r.front;
-    let b = r.back;
-    Receiver {
-        front: a,
-        back: b,
-        points: p,
-    }
+    Receiver { points: p, ..r }
 }
 
 fn place(b: bool, m: Meta, w: Meta) -> Meta
@@ -112,17 +98,12 @@ fn place(b: bool, m: Meta, w: Meta) -> Meta
 pub(crate) fn meta(w: Metas, k: u64, m: Meta) -> Metas
     ensures { result ≡ meta_put w k m }
 {
-    let a = w.first;
-    let b = w.second;
-    let c = w.third;
-    let d = w.fourth;
-    let e = w.fifth;
     Metas {
-        count: w.count,
-        first: place(k == 0, m, a),
-        second: place(k == 1, m, b),
-        third: place(k == 2, m, c),
-        fourth: place(k == 3, m, d),
-        fifth: place(4 <= k, m, e),
+        first: place(k == 0, m, w.first),
+        second: place(k == 1, m, w.second),
+        third: place(k == 2, m, w.third),
+        fourth: place(k == 3, m, w.fourth),
+        fifth: place(4 <= k, m, w.fifth),
+        ..w
     }
 }

@@ -4,9 +4,11 @@
 pub mod ranged;
 
 ghost use Rattle.std.specs.Prelude.{◌≡◌};
-ghost use Rattle.slot_wire.specs.Slots.{word_of, word_number, slot_shown};
+ghost use Rattle.slot_wire.specs.Slots.{word_of, word_number, slot_by, slot_shown, corr_by};
 
+use sync_corr::Corr;
 use sync_heads::{SlotNumber, Word};
+use wire::Field;
 
 // Whether the slot is known, its number and its frame: numbers of an answer's bytes.
 #[derive(Clone, Copy)]
@@ -16,6 +18,7 @@ pub struct SlotShown {
     pub frame: u64,
 }
 
+// No `From`: trait and both types stand in other crates. The numbers are those of the bytes of calls and answers.
 pub fn word_of(n: u64) -> Word
     ensures { result ≡ word_of n }
 {
@@ -33,6 +36,30 @@ pub fn word_number(w: Word) -> u64
         Word::Ssync => 0,
         Word::Fsync => 1,
         Word::NotFsync => 2,
+    }
+}
+
+// The slot of three numbers, wherever a call holds them: whether it is known, its number, its frame.
+pub fn slot(known: u64, number: u64, frame: u64) -> Option<SlotNumber>
+    ensures { result ≡ slot_by known number frame }
+{
+    if known == 0 {
+        None
+    } else {
+        Some(SlotNumber {
+            number: u8::of_bits(number),
+            frame: u32::of_bits(frame),
+        })
+    }
+}
+
+// The correlation of two numbers.
+pub fn corr(re: u64, im: u64) -> Corr
+    ensures { result ≡ corr_by re im }
+{
+    Corr {
+        re: i32::of_bits(re),
+        im: i32::of_bits(im),
     }
 }
 

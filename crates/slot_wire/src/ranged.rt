@@ -1,26 +1,18 @@
 // For programs, which prove that the numbers are there.
-#![tactic(auto)]
+#![tactic(auto, unfolding(crate::specs::Slots::slot_of, crate::specs::Slots::corr_of))]
 
 ghost use Rattle.std.specs.Prelude.{◌≡◌, ◌+◌, ◌≤◌};
 ghost use Rattle.slot_wire.specs.Slots.{slot_of, corr_of};
 
 use sync_corr::Corr;
 use sync_heads::SlotNumber;
-use wire::Field;
 
 // The slot of the three numbers from k on.
 pub fn slot_at(p: &[u64; 24], k: usize) -> Option<SlotNumber>
     requires { k + 3 ≤ 24 }
     ensures { result ≡ slot_of p.now k }
 {
-    if p[k] == 0 {
-        None
-    } else {
-        Some(SlotNumber {
-            number: u8::of_bits(p[k + 1]),
-            frame: u32::of_bits(p[k + 2]),
-        })
-    }
+    crate::slot(p[k], p[k + 1], p[k + 2])
 }
 
 // The correlation of two numbers.
@@ -28,8 +20,5 @@ pub fn corr_at(p: &[u64; 24], k: usize) -> Corr
     requires { k + 2 ≤ 24 }
     ensures { result ≡ corr_of p.now k }
 {
-    Corr {
-        re: i32::of_bits(p[k]),
-        im: i32::of_bits(p[k + 1]),
-    }
+    crate::corr(p[k], p[k + 1])
 }

@@ -15,6 +15,7 @@ ghost use Rattle.solve_step.specs.Back.{solution_of};
 use refusal::Refusal;
 
 // The matrix row by row, and the right side: pairs, the real part before the imaginary part.
+// C hands both over as such flat arrays (c_api), and `solution_of` names them.
 #[derive(Clone, Copy)]
 pub struct System {
     pub a: [f64; 242],

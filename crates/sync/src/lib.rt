@@ -12,7 +12,7 @@ ghost use Rattle.sync.specs.Answers.{new_answer, new_acc, push_answer, push_acc,
 use refusal::{Refusal, Refused};
 use sync_step::{Events, LastCorr, Run};
 
-// The last 24 symbols, oldest first, and all else.
+// The last 24 symbols, oldest first, and all else. The window is flat, as the loop over it needs it.
 #[derive(Clone, Copy)]
 pub struct SlotSync {
     pub win: [i16; 48],

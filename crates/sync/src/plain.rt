@@ -5,7 +5,7 @@ ghost use Rattle.std.specs.Prelude.{◌≡◌, true, ◌+◌, ◌<◌, ◌^◌, 
 ghost use Rattle.sync.specs.Sync.{started_sync, kept_window};
 
 use crate::SlotSync;
-use sync_heads::FrameHead;
+use sync_heads::{FrameHead, given};
 use sync_step::Stores;
 
 // A sync that starts at a position with this frame record.
@@ -21,9 +21,7 @@ pub fn started(at: u64, last: Option<FrameHead>) -> SlotSync
 pub fn clear(acc: &mut [u32])
     ensures { acc.new ≡ replicate (length acc.old) 0 }
 {
-    for i in 0..acc.len() {
-        acc[i] = 0;
-    }
+    acc.fill(0);
 }
 
 // A loss leaves no window.
@@ -41,11 +39,7 @@ pub fn kept_window(x: Stores, win: [i16; 48]) -> [i16; 48]
 pub fn past_end(base: u64, t: u64) -> bool
     ensures { result ≡ leb (2 ^ 62) (base + t) }
 {
-    if base < 4611686018427387904 {
-        4611686018427387904 - base <= t
-    } else {
-        true
-    }
+    given::past(base, t)
 }
 
 // at < base + t, which may pass 64 bits.

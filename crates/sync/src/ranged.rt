@@ -1,4 +1,6 @@
 // For the receiver and the block, which prove the ranges.
+// The ranges stand in each contract and not in a type with an invariant: a state is handed in by anyone and may be out of range, the entries refuse
+// such a one and hand it back, and such a type could not hold it.
 ghost use Rattle.std.specs.Prelude.{◌≡◌, true, ◌+◌, ◌<◌, length};
 ghost use Rattle.sync_corr.specs.Correlate.{ones_of};
 ghost use Rattle.sync_step.specs.Ranges.{RunOk};

@@ -1,4 +1,5 @@
-// Why a symbol or a restart is not taken: in the order of document 01's table.
+// Why a symbol or a restart is not taken: in the order of document 01's table. Both tests begin and go on alike, but
+// the words are tested between, and the table's order may not change (`push_refusal`, `restart_refusal`): a shared part would be no plainer.
 #![tactic(auto, using(laws::specs::Choice::cases), unfolding(crate::specs::Answers::push_refusal, crate::specs::Answers::restart_refusal))]
 
 ghost use Rattle.std.specs.Prelude.{◌≡◌};

@@ -15,7 +15,7 @@ pub struct Words {
     pub w: [i8; 48],
 }
 
-// Symbols taken, the accumulator at the last position, and the refusal of the last call.
+// Symbols taken, the accumulator at the last position, and the refusal of the last call, as the number that C is given.
 #[repr(C)]
 #[derive(Clone, Copy)]
 pub struct Streamed {
@@ -24,7 +24,7 @@ pub struct Streamed {
     pub refusal: u8,
 }
 
-// What a symbol leaves: the sync, the accumulator at its position, and the refusal, 0 if it was taken.
+// What a symbol leaves: the sync, the accumulator at its position, and the refusal, 0 if it was taken, as it goes into `Streamed`.
 #[derive(Clone, Copy)]
 struct Left {
     sync: SlotSync,

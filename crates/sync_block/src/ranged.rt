@@ -1,4 +1,7 @@
 // For the receiver, which proves the ranges.
+// The ranges stand in each contract and not in a type with an invariant: a state is handed in by anyone and may be out of range, the entries refuse
+// such a one and hand it back, and such a type could not hold it.
+// Window and rows are flat, and the accumulators a slice: the compiler makes vectors of the loops over them, and each symbol passes here.
 ghost use Rattle.std.specs.Prelude.{◌≡◌, ◌+◌, ◌≤◌, ◌<◌, ◌^◌, length};
 ghost use Rattle.sync_corr.specs.Rows.{SmallRows};
 ghost use Rattle.sync_step.specs.Ranges.{RunOk};

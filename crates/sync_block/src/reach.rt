@@ -30,8 +30,7 @@ fn until(r: Run) -> usize
         1
     } else {
         let p = sync_step::plain::place(r.t);
-        let k = r.lock;
-        loud_place(k, p) - p + 1
+        loud_place(r.lock, p) - p + 1
     }
 }
 

@@ -1,4 +1,5 @@
-// Correlation of 24 symbols with the sync words, after `correlate` of chain/sync.rs. Symbols and words are lists of 24 pairs, I before Q.
+// Correlation of 24 symbols with the sync words, after `correlate` of chain/sync.rs. Symbols and words are lists of 24 pairs, I before Q:
+// flat, as C hands them in and as the loop over them needs them.
 #![tactic(auto)]
 
 pub mod plain;

@@ -18,6 +18,7 @@ pub fn ones(w: &[i8; 48]) -> bool
 }
 
 // The two words as four rows of 48, so that each part of a correlation is one sum of products of 16 bits.
+// Not one function with the rows of `eq_fir`: those split taps into bytes, these take signs from words, and only the loop over places is alike.
 pub fn rows(f: &[i8; 48], s: &[i8; 48]) -> [i16; 192]
     ensures { result ≡ rows_of f.now s.now }
 {

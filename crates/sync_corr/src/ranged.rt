@@ -1,4 +1,5 @@
 // For crates above: the test of a word, and the correlations by rows that are made once for many symbols.
+// `SmallRows` stands in contracts and not in a type: the rows are flat numbers so that the compiler makes vectors of the loop, which each symbol passes.
 ghost use Rattle.std.specs.Prelude.{◌≡◌};
 ghost use Rattle.sync_corr.specs.Rows.{SmallRows, Bounded, dots_of};
 

@@ -41,7 +41,7 @@ pub(crate) fn row_at(f: &[i8; 48], s: &[i8; 48], j: usize) -> i16
     }
 }
 
-// sum + x y, for a y of size at most 1
+// sum + x y, for a y of size at most 1. That of `eq_fir` has other bounds: one for both would prove neither's sum to fit.
 pub(crate) fn added(sum: i32, x: i16, y: i16) -> i32
     requires { (nat_abs sum ≤ 2 ^ 30) × (nat_abs y ≤ 1) }
     ensures { result ≡ sum +ℤ (x *ℤ y) }

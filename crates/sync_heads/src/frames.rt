@@ -1,4 +1,4 @@
-// Majority, marks, slot and frame numbers.
+// Majority, marks, slot and frame numbers. `CourseOk` and the bound of `at` stand in contracts for the reason that `ranged` gives.
 #![tactic(auto, using(laws::specs::Choice::cases), unfolding(crate::specs::Frames::next_slot, crate::specs::Frames::unknown_slot, crate::specs::Frames::frame_due, crate::specs::Frames::frame_of, crate::specs::Frames::framed_of, crate::specs::Frames::tick_of, crate::specs::Frames::due_of, crate::specs::Frames::elsewhere_of))]
 
 ghost use Rattle.std.specs.Prelude.{◌≡◌, ◌^◌, ◌<◌, ◌≤◌, Bool, unsigned_abs};
@@ -48,20 +48,14 @@ pub(crate) fn next_slot(s: Option<SlotNumber>) -> Option<SlotNumber>
 fn unknown(s: Option<SlotNumber>) -> bool
     ensures { result ≡ unknown_slot s }
 {
-    match s {
-        None => true,
-        Some(_) => false,
-    }
+    s.is_none()
 }
 
 // Whether this slot begins a frame.
 fn begins(s: Option<SlotNumber>) -> bool
     ensures { result ≡ frame_due s }
 {
-    match s {
-        None => false,
-        Some(s) => s.number == 0,
-    }
+    s.is_some_and(|k| k.number == 0)
 }
 
 // Whole frames between two frame heads, at least 1 and at most 2^32 - 1. A record later than the head is no distance away.
@@ -69,15 +63,8 @@ fn gap(at: u64, last: u64) -> u32
     requires { at ≤ 2 ^ 62 }
     ensures { result ≡ gap_of 9296 at last }
 {
-    let far = if last < at { at - last } else { 0 };
-    let n = (far + 557760) / 1115520;
-    if n < 1 {
-        1
-    } else if 4294967295 < n {
-        4294967295
-    } else {
-        n as u32
-    }
+    let n = (at.saturating_sub(last) + 557760) / 1115520;
+    n.clamp(1, 4294967295) as u32
 }
 
 fn frame(at: u64, r: Option<FrameHead>) -> u32
@@ -107,7 +94,7 @@ fn framed(c: Course, at: u64) -> Course
 fn tick(n: u32) -> u32
     ensures { result ≡ tick_of n }
 {
-    if n < 4294967295 { n + 1 } else { 4294967295 }
+    n.saturating_add(1)
 }
 
 // A frame head was expected here: marked, missed for the first time, or lost.

@@ -99,7 +99,8 @@ pub struct Told {
     pub head: Option<Head>,
 }
 
-// What a reading makes of stage and course, and the heads that it tells, in order.
+// What a reading makes of stage and course, and the heads that it tells, in order. Two named Options and no array: the rules of the story speak of
+// each head by its name.
 #[derive(Clone, Copy)]
 pub struct Taken {
     pub lost: bool,

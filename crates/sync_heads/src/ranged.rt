@@ -1,4 +1,6 @@
 // For the slot sync, which proves the ranges: what a reading comes to.
+// The ranges stand in each contract and not in a type with an invariant: a state is handed in by anyone and may be out of range, the entries refuse
+// such a one and hand it back, and such a type could not hold it.
 #![tactic(auto, unfolding(crate::specs::Heads::is_fsync, crate::specs::Heads::ssync_taken, crate::specs::Heads::fsync_taken, crate::specs::Heads::both_heads))]
 
 ghost use Rattle.std.specs.Prelude.{◌≡◌};
@@ -30,11 +32,7 @@ fn head_of(w: Said, at: u64, slot: Option<SlotNumber>) -> Head
 fn is_fsync(w: Word) -> bool
     ensures { result ≡ is_fsync w }
 {
-    match w {
-        Word::Ssync => false,
-        Word::Fsync => true,
-        Word::NotFsync => false,
-    }
+    matches!(w, Word::Fsync)
 }
 
 // A head that carries Ssync.
@@ -92,7 +90,8 @@ fn ssync_taken(odd: bool, c: Course, r: Reading) -> Taken
     }
 }
 
-// A reading that carries an F word.
+// A reading that carries an F word. One function for this and the one above would take the parity and the head's outcome as arguments, and be no
+// plainer than the two records, which read as `ssync_taken` and `fsync_taken` do.
 fn fsync_taken(odd: bool, last: Corr, c: Course, r: Reading) -> Taken
     requires { (Small last) × (CourseOk c) × (ReadingOk r) }
     ensures { result ≡ fsync_taken 9296 odd last c r }

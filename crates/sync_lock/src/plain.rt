@@ -15,7 +15,7 @@ pub fn leak(a: u32, size: u32) -> u32
     ((7 * (a as u64) + (size as u64)) / 8) as u32
 }
 
-// The lock after a verdict; a loss begins a new search.
+// The lock after a verdict; a loss begins a new search. No From beside it: this public function stays, and a second name would be no plainer.
 pub fn lock_after(v: Verdict) -> Lock
     ensures { result ≡ lock_after v }
 {

@@ -1,4 +1,6 @@
 // For the slot sync, which proves the ranges.
+// The ranges stand in each contract and not in a type with an invariant: a state is handed in by anyone and may be out of range, the entries refuse
+// such a one and hand it back, and such a type could not hold it.
 #![tactic(auto, using(laws::specs::Choice::cases), unfolding(crate::specs::Period::counts_of, crate::specs::Rule::sought_of, crate::specs::Rule::search_of, crate::specs::Rule::held_of, crate::specs::Rule::rule_of))]
 
 ghost use Rattle.std.specs.Prelude.{◌≡◌, ◌+◌, ◌*◌, ◌≤◌, ◌<◌, ◌^◌};

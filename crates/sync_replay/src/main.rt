@@ -93,7 +93,7 @@ fn tell(rt: &HostRuntime, d: Desk, used: usize, out: &mut [u8]) -> io::Result<us
     Ok(at + 320)
 }
 
-// One call: its kind in the lowest byte, n in the next three, v in the upper half.
+// One call: its kind in the lowest byte, n in the next three, v in the upper half. The kind is a number of the call's bytes: an enum of the kinds would be one more list of them.
 fn one_call(
     rt: &HostRuntime,
     t: Turn,

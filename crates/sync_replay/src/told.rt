@@ -1,8 +1,9 @@
 // An answer as forty numbers: a place for the digest, refusal, correlations, level, and three rows of eleven for the events.
 #![tactic(auto, unfolding(crate::specs::Told::row_of, crate::specs::Told::period_row, crate::specs::Told::refused_of, crate::specs::Told::noted_of))]
 
-ghost use Rattle.std.specs.Prelude.{◌≡◌, ◌+◌, ◌≤◌, length};
+ghost use Rattle.std.specs.Prelude.{◌≡◌, ◌+◌, ◌<◌, ◌≤◌};
 ghost use Rattle.std.proofs.lemmas.List.Edits.{sets};
+ghost use Rattle.wire.specs.Wire.{byte_at};
 ghost use Rattle.sync_replay.specs.Told.{head_row, period_row, row_of, answer_of, refused_of, noted_of, packed_of};
 
 use crate::mixing;
@@ -10,6 +11,7 @@ use sync_heads::Head;
 use sync_step::{Event, Events, LastCorr, SyncStats};
 use wire::Field;
 
+// The numbers stand in the order of the bytes of answers, which is another one in phase_wire.
 fn head_row(h: Head) -> [u64; 11]
     ensures { result ≡ head_row h }
 {
@@ -47,6 +49,7 @@ fn period_row(p: SyncStats) -> [u64; 11]
     ]
 }
 
+// The kinds of events by their numbers in the bytes of answers.
 fn row(e: Event) -> [u64; 11]
     ensures { result ≡ row_of e }
 {
@@ -104,21 +107,14 @@ pub(crate) fn noted(digest: u64, answer: [u64; 40]) -> [u64; 40]
     t
 }
 
-// Zeros to fill. A function, since its contract gives a proof the length and no more.
-fn no_bytes() -> [u8; 320]
-    ensures { length result ≡ 320 }
-{
-    [0; 320]
-}
-
 // Forty numbers, eight bytes each.
 pub(crate) fn packed(n: &[u64; 40]) -> [u8; 320]
     ensures { result ≡ packed_of n.now }
 {
-    let mut t = no_bytes();
-    for i in 0..320 {
-        let b = wire::bytes(n[i / 8]);
-        t[i] = b[i % 8];
-    }
-    t
+    std::array::from_fn(
+        |i: usize| -> u8
+            requires { i < 320 }
+            ensures { result ≡ byte_at n.entry.now i }
+        { wire::bytes(n[i / 8])[i % 8] },
+    )
 }

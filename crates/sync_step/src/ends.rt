@@ -14,24 +14,16 @@ use sync_lock::{Lock, Tally, Verdict};
 fn is_nothing(e: Event) -> bool
     ensures { result ≡ is_nothing e }
 {
-    match e {
-        Event::Nothing => true,
-        Event::Head(_) => false,
-        Event::Period(_) => false,
-        Event::Lost(_) => false,
-    }
+    matches!(e, Event::Nothing)
 }
 
 fn event_of(h: Option<Head>) -> Event
     ensures { result ≡ event_of h }
 {
-    match h {
-        None => Event::Nothing,
-        Some(head) => Event::Head(head),
-    }
+    h.map_or(Event::Nothing, Event::Head)
 }
 
-// The heads of a reading.
+// The heads of a reading. No From: the conversion would be public, where this function is the crate's own.
 pub(crate) fn heads_of(k: Taken) -> Events
     ensures { result ≡ heads_of k }
 {
@@ -171,15 +163,7 @@ pub(crate) fn lost_at_end(at: u64, last: Option<FrameHead>, es: Events) -> Step
 fn loses(v: Verdict) -> bool
     ensures { result ≡ loses_of v }
 {
-    match v {
-        Verdict::Seeks { cand: _, count: _ } => false,
-        Verdict::Locks { offset: _ } => false,
-        Verdict::Holds {
-            offset: _,
-            misses: _,
-        } => false,
-        Verdict::Loses => true,
-    }
+    matches!(v, Verdict::Loses)
 }
 
 // The step that stores one accumulator.

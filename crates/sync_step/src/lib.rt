@@ -43,8 +43,8 @@ pub enum Event {
     Lost(u64),
 }
 
-// In order, from the first place on. Three named places and no array of Options: the rules of the story speak of each by its name, and an event says
-// itself whether it is one.
+// In order, from the first place on. Three named places and no array of Options: the claims of sync_tie name each, and an event says itself whether it
+// is one.
 #[derive(Clone, Copy)]
 pub struct Events {
     pub first: Event,

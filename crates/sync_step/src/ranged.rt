@@ -1,4 +1,6 @@
 // For the slot sync and the receiver, which prove the ranges.
+// The ranges stand in each contract and not in a type with an invariant: a state is handed in by anyone and may be out of range, the entries refuse
+// such a one and hand it back, and such a type could not hold it.
 #![tactic(auto, unfolding(crate::specs::Step::early_of, crate::specs::Step::after_of))]
 
 ghost use Rattle.std.specs.Prelude.{◌≡◌, ◌+◌, ◌≤◌, ◌<◌};

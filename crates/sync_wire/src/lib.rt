@@ -1,11 +1,12 @@
 // A slot sync as numbers of calls and answers, for the replay program of the receiver: its run, the heads of that run, its window.
-#![tactic(auto, unfolding(crate::specs::Given::run_put, crate::specs::Given::heads_put))]
+#![tactic(auto, unfolding(crate::specs::Given::tally_of, crate::specs::Given::lock_of, crate::specs::Given::run_put, crate::specs::Given::heads_put))]
 
 mod given;
+pub mod parts;
 pub mod told;
 
-ghost use Rattle.std.specs.Prelude.{◌≡◌, length};
-ghost use Rattle.sync_wire.specs.Given.{run_put, heads_put, window_of};
+ghost use Rattle.std.specs.Prelude.{◌≡◌, ◌+◌, ◌*◌, ◌<◌};
+ghost use Rattle.sync_wire.specs.Given.{run_put, heads_put, window_at, window_of};
 
 use sync_step::Run;
 
@@ -16,8 +17,8 @@ pub fn run_put(r: Run, p: &[u64; 24]) -> Run
     Run {
         base: p[1],
         t: p[2],
-        tally: given::tally_at(p),
-        lock: given::lock_at(p),
+        tally: parts::tally(p[3], p[4], p[5]),
+        lock: parts::lock(p[6], p[7], p[8]),
         ..r
     }
 }
@@ -33,20 +34,14 @@ pub fn heads_put(r: Run, p: &[u64; 24]) -> Run
     }
 }
 
-// Zeros to fill. A function, since a contract gives a proof the length and no more.
-fn no_window() -> [i16; 48]
-    ensures { length result ≡ 48 }
-{
-    [0; 48]
-}
-
 // The window of the bytes from 8 on.
 pub fn window_at(bytes: &[u8; 192]) -> [i16; 48]
     ensures { result ≡ window_of bytes.now }
 {
-    let mut w = no_window();
-    for k in 0..48 {
-        w[k] = fields::ranged::pair_at(bytes, 8 + 2 * k);
-    }
-    w
+    std::array::from_fn(
+        |k: usize| -> i16
+            requires { k < 48 }
+            ensures { result ≡ window_at bytes.entry.now k }
+        { fields::ranged::pair_at(bytes, 8 + 2 * k) },
+    )
 }

@@ -4,4 +4,4 @@ use Rattle.frame_wire.proofs.count_put.Goals as goal
 
 pub returns : goal.returns
 unfolding count_put
-returns c = rw c.of_bits-count.ensures
+returns c = rw c.of_bits.ensures

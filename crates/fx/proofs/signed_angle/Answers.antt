@@ -1,27 +1,26 @@
--- `fx::signed_angle` meets its contract. Assumes nothing.
-use Rattle.std.proofs.Common.{◌≡◌, ℕ, ◌^◌, ◌<◌, pos, ◌-ℤ◌, sym, ◌∙◌, arith, to_z-of_z, w64, SFits, to_z, le-ltb, lt-ltb}
-use mir.Facts.{to_z_pos}
+-- `fx::signed_angle` meets its contract: the bits of an angle from 2^31 on are those of a number below 0. Assumes nothing.
+use Rattle.std.proofs.Common.{◌≡◌, ℕ, suc, ◌-◌, ◌^◌, ◌<◌, Bool, true, false, ℤ, pos, negsuc, ◌-ℤ◌, refl, ◌∙◌, arith, to_z-of_z, w32, SFits}
+use mir.Facts.{sfits_widen}
+use mir.Val.{sel}
+use lib.Dec.{ltb}
+use Rattle.laws.proofs.Linear.{eq_ud, dif_ud}
+use Rattle.laws.specs.Choice.{when◌then◌else◌}
 use Rattle.fx.specs.Fx.{signed_angle}
-use Rattle.laws.proofs.Size.{sfits_abs, abs_sub}
-use Rattle.laws.specs.Choice.{if_yes, if_no}
 use Rattle.fx.proofs.signed_angle.Goals as goal
 
--- the angle, as the cast has it
-read : (a : ℕ) → a < 2 ^ 32 → to_z w64 a ≡ pos a
-read a h = to_z_pos w64 (omega arith)
+-- what the cast chooses between
+chosen : (t : Bool) (a b c : ℤ) → b ≡ c → sel t a b ≡ (when t then a else c)
+unfolding when◌then◌else◌
+chosen true a b c e = refl
+chosen false a b c e = e
 
-difference-fits : (a : ℕ) → a < 2 ^ 32 → SFits w64 (pos a -ℤ pos (2 ^ 32))
-difference-fits a h = sfits_abs w64 (pos a -ℤ pos (2 ^ 32)) (omega (arith, abs_sub (pos a) (pos (2 ^ 32))))
+below : (a : ℕ) → a < 2 ^ 32 → negsuc (2 ^ 32 - suc a) ≡ pos a -ℤ pos (2 ^ 32)
+below a h = eq_ud (negsuc (2 ^ 32 - suc a)) (pos a -ℤ pos (2 ^ 32)) (omega (arith, h, dif_ud (pos a) (pos (2 ^ 32))))
 
-pub overflow_sub-result : goal.overflow_sub-result
-overflow_sub-result c = rw (read c.args.a c.ranges.a.fits) (difference-fits c.args.a c.ranges.a.fits)
-
-pub returns-then-a-lt2147483648 : goal.returns-then-a-lt2147483648
+pub returns : goal.returns
 unfolding signed_angle
-returns-then-a-lt2147483648 c = read c.args.a c.ranges.a.fits ∙ sym (if_yes _ _ _ (lt-ltb c.args.a (2 ^ 31) c.if-a-lt2147483648.true))
-
-pub returns-else-a-lt2147483648 : goal.returns-else-a-lt2147483648
-unfolding signed_angle
-returns-else-a-lt2147483648 c =
+returns c =
     let a = c.args.a in
-    rw (read a c.ranges.a.fits, to_z-of_z (difference-fits a c.ranges.a.fits)) (sym (if_no _ _ _ (le-ltb a (2 ^ 31) c.if-a-lt2147483648.false)))
+    let f : SFits w32 c.cast_signed.result = record { sfits = c.cast_signed.type_inv } in
+    rw (to_z-of_z f, to_z-of_z (sfits_widen {w = w32} tt f))
+    (c.cast_signed.ensures ∙ chosen (ltb a (2 ^ 31)) (pos a) (negsuc (2 ^ 32 - suc a)) (pos a -ℤ pos (2 ^ 32)) (below a c.ranges.a.fits))

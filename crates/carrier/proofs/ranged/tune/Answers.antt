@@ -1,6 +1,6 @@
 -- `carrier::ranged::tune` meets its contract: 2^37 x 246,412 is below 2^55. Assumes nothing.
 use Prim.Native.Nat.{◌+◌, ◌*◌, ◌≤◌, ◌^◌}
-use mathlib.Core.Path.{sym, ◌∙◌}
+use mathlib.Core.Path.{◌∙◌}
 use native.Mathlib.Omega.{arith}
 use mir.Facts.{to_z-of_z}
 use mir.Syntax.{w32, w64}
@@ -8,9 +8,9 @@ use mir.Val.{SFits, to_z, of_z}
 use lib.Dec.{lit<}
 use lib.IntN.{ℤ, pos, nat_abs, ◌+ℤ◌, ◌*ℤ◌}
 use Rattle.angles.proofs.Laws.{round_near}
+use Rattle.fx.proofs.Laws.{clamped, in_bounds}
 use Rattle.fx.specs.Fx.{round_shift}
-use Rattle.laws.proofs.Size.{Num, arg, arg_le, sfits_abs, lit, plus, times, at, back, fits, mag_clamped}
-use Rattle.laws.specs.Choice.{if_no, if_yes}
+use Rattle.laws.proofs.Size.{Num, arg, arg_le, sfits_abs, lit, plus, times, at, back, fits}
 use Rattle.carrier.specs.Carrier.{tuned}
 use Rattle.carrier.proofs.ranged.tune.Lts as lts
 use Rattle.carrier.proofs.ranged.tune.Tie as tie
@@ -29,7 +29,7 @@ overflow_mul-sum c = fits w64 (product c.args.sum c.requires) tt
 pub round_shift-requires : goal.round_shift-requires
 round_shift-requires c = let n = at w64 (product c.args.sum c.requires) tt in rw n.is (omega (arith, n.size), omega arith)
 
-shifted : (c : (lts.After-round_shift tie.the-claims reads.Pre reads.Post)) → Num (to_z w64 (of_z w64 (to_z w32 (of_z w32 c.args.freq))) +ℤ to_z w64 (of_z w64 c.round_shift.result))
+shifted : (c : (lts.After-round_shift tie.the-claims reads.Pre reads.Post tie.handed_clauses)) → Num (to_z w64 (of_z w64 (to_z w32 (of_z w32 c.args.freq))) +ℤ to_z w64 (of_z w64 c.round_shift.result))
     (c.args.freq +ℤ round_shift (c.args.sum *ℤ pos 246412) 39) (2 ^ 31 + 2 ^ 17)
 shifted c =
     let v = c.args.sum *ℤ pos 246412 in
@@ -40,27 +40,17 @@ shifted c =
 pub overflow_add-f : goal.overflow_add-f
 overflow_add-f c = fits w64 (shifted c) tt
 
-small : (c : (lts.Else2 tie.the-claims reads.Pre reads.Post)) → SFits w32 (c.args.freq +ℤ round_shift (c.args.sum *ℤ pos 246412) 39)
-small c =
-    let a = c.args in
-    let r = (at w64 (shifted c.before.before) tt).is in
-    record { sfits = omega (arith, mag_clamped (a.freq +ℤ round_shift (a.sum *ℤ pos 246412) 39) 524286 524287 (rw r at c.if-f-ltminus524287.false) (rw r at c.if-f-gt524287.false)) }
-
 pub overflow_cast-result : goal.overflow_cast-result
-overflow_cast-result c = rw (at w64 (shifted c.before.before) tt).is (small c)
+overflow_cast-result c =
+    let e = c.clamp.ensures in
+    let wide : SFits w64 c.clamp.result = record { sfits = c.clamp.type_inv } in
+    rw (to_z-of_z wide) (record { sfits = omega (arith, in_bounds 524286 524287 c.clamp.result e.lower_bound e.upper_bound) })
 
-pub returns-then-f-ltminus524287 : goal.returns-then-f-ltminus524287
+pub returns : goal.returns
 unfolding tuned
-returns-then-f-ltminus524287 c = sym (if_yes _ _ _ (rw (at w64 (shifted c.before) tt).is at c.if-f-ltminus524287.true))
-
-pub returns-then-f-gt524287 : goal.returns-then-f-gt524287
-unfolding tuned
-returns-then-f-gt524287 c =
-    let r = (at w64 (shifted c.before.before) tt).is in
-    sym (if_no _ _ _ (rw r at c.if-f-ltminus524287.false) ∙ if_yes _ _ _ (rw r at c.if-f-gt524287.true))
-
-pub returns-else-f-gt524287 : goal.returns-else-f-gt524287
-unfolding tuned
-returns-else-f-gt524287 c =
-    let r = (at w64 (shifted c.before.before) tt).is in
-    rw (r, to_z-of_z (small c)) (sym (if_no _ _ _ (rw r at c.if-f-ltminus524287.false) ∙ if_no _ _ _ (rw r at c.if-f-gt524287.false)))
+returns c =
+    let a = c.args in
+    let e = c.clamp.ensures in
+    let wide : SFits w64 c.clamp.result = record { sfits = c.clamp.type_inv } in
+    let narrow : SFits w32 c.clamp.result = record { sfits = omega (arith, in_bounds 524286 524287 c.clamp.result e.lower_bound e.upper_bound) } in
+    rw (to_z-of_z wide, to_z-of_z narrow) ((rw (at w64 (shifted c.before) tt).is at e.value) ∙ clamped 524286 524287 (a.freq +ℤ round_shift (a.sum *ℤ pos 246412) 39))

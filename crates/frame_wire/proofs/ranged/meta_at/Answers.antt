@@ -4,4 +4,4 @@ use Rattle.frame_wire.proofs.ranged.meta_at.Goals as goal
 
 pub returns : goal.returns
 unfolding meta_at
-returns c = rw (c.of_bits.ensures, c.slot_at-s.ensures, c.word_of-w.ensures)
+returns c = rw (c.of_bits.ensures, c.slot_at.ensures, c.word_of.ensures)

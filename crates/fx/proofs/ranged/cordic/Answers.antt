@@ -25,13 +25,13 @@ x_fits c = sfits_abs w64 c.turned-t.result.x (omega (arith, x-size c))
 product-fits : (c : (lts.After-turned tie.the-claims reads.Pre reads.Post)) → SFits w64 (c.turned-t.result.x *ℤ pos 39797)
 product-fits c = sfits_abs w64 (c.turned-t.result.x *ℤ pos 39797) (omega (arith, product c))
 
-pub overflow_mul-x : goal.overflow_mul-x
-overflow_mul-x c = rw (to_z-of_z (x_fits c.before.before)) (product-fits c.before.before)
+pub overflow_mul-t : goal.overflow_mul-t
+overflow_mul-t c = rw (to_z-of_z (x_fits c.before.before.before)) (product-fits c.before.before.before)
 
 pub round_shift-size-requires : goal.round_shift-size-requires
-round_shift-size-requires c = rw (to_z-of_z (x_fits c.before.before), to_z-of_z (product-fits c.before.before)) (omega (arith, product c.before.before))
+round_shift-size-requires c = rw (to_z-of_z (x_fits c.before.before.before), to_z-of_z (product-fits c.before.before.before)) (omega (arith, product c.before.before.before))
 
 pub returns : goal.returns
 unfolding cordic_of
 returns c =
-    rw (to_z-of_z (record { sfits = c.round_shift-size.type_inv }), rw (to_z-of_z (x_fits c.before.before), to_z-of_z (product-fits c.before.before)) at c.round_shift-size.ensures, after c.before.before)
+    rw (to_z-of_z (record { sfits = c.round_shift-size.type_inv }), rw (to_z-of_z (x_fits c.before.before.before), to_z-of_z (product-fits c.before.before.before)) at c.round_shift-size.ensures, after c.before.before.before)

@@ -4,4 +4,4 @@ use Rattle.receiver_state.proofs.put.heads.Goals as goal
 
 pub returns : goal.returns
 unfolding heads_put_in
-returns c = rw (c.sync.ensures, c.heads_put-n.ensures)
+returns c = rw (c.run.ensures, c.heads_put.ensures)

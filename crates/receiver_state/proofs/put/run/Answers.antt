@@ -4,4 +4,4 @@ use Rattle.receiver_state.proofs.put.run.Goals as goal
 
 pub returns : goal.returns
 unfolding run_put_in
-returns c = rw (c.sync.ensures, c.run_put-n.ensures)
+returns c = rw (c.run.ensures, c.run_put.ensures)

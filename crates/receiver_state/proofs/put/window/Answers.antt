@@ -4,4 +4,4 @@ use Rattle.receiver_state.proofs.put.window.Goals as goal
 
 pub returns : goal.returns
 unfolding window_put
-returns c = rw (c.sync.ensures, c.window_at-win.ensures, c.packed-bytes.ensures)
+returns c = rw (c.window.ensures, c.window_at.ensures, c.packed.ensures)

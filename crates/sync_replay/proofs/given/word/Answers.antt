@@ -1,29 +1,11 @@
 -- `sync_replay::given::word` meets its contract. Assumes nothing.
-use Rattle.std.proofs.Common.{◌≡◌, [], drop, refl, ◌∙◌, append-nil, arith, drop_of_length-le, to_z-of_z}
-use Rattle.laws.proofs.Lists.{firsts-step}
-use Rattle.laws.specs.Ranges.{firsts}
+use Rattle.std.proofs.Common.{◌≡◌, refl}
+use Rattle.laws.proofs.Made.{made}
 use Rattle.fields.specs.Fields.{one_at, ones_at}
 use Rattle.sync_replay.proofs.given.word.Goals as goal
-
-pub loop-i-init : goal.loop-i-init
-unfolding firsts
-loop-i-init c = (omega arith, refl)
-
-pub loop-i-preserved : goal.loop-i-preserved
-unfolding one_at
-loop-i-preserved c =
-    let s = c.args in
-    let ys = c.no_word-w.result in (
-      omega arith,
-      rw (to_z-of_z (record { sfits = c.of_bits.type_inv }), c.loop-i.invariant.1)
-          (firsts-step (one_at s.p.now s.k) ys c.loop-i.i c.of_bits.result c.of_bits.ensures (omega (arith, c.no_word-w.ensures))),
-    )
 
 pub returns : goal.returns
 unfolding ones_at
 returns c =
-    let s = c.args in
-    let ys = c.no_word-w.result in
-    let e : c.loop-i.i ≡ 48 = omega arith in
-    let none : drop 48 ys ≡ [] = drop_of_length-le ys {i = 48} (omega (arith, c.no_word-w.ensures)) in
-    (rw (e, none) at c.loop-i.invariant.1) ∙ append-nil (firsts (one_at s.p.now s.k) 48)
+    made _ (λ p. (p.0.now ≡ c.args.p.now) × (p.1.now ≡ c.args.k)) (one_at c.args.p.now c.args.k) 48
+    (λ p q i y o l e. (rw (o.0, o.1) at e.met.1, (rw e.met.0.0 o.0, rw e.met.0.1 o.1))) _ c.from_fn.result (refl, refl) c.from_fn.ensures.items
