@@ -111,7 +111,8 @@ fn run(
     }
 }
 
-// Events in order, then soft lines.
+// Events in order, then soft lines. A function of its own, since what it needs on the stack is then not needed below it, where a feed is made.
+#[inline(never)]
 fn answer(
     rt: &HostRuntime,
     es: Events,
@@ -145,17 +146,16 @@ fn onward(from: usize, used: usize, len: usize) -> usize
 // All symbols of a block. Each turn uses one or more, up to and with the first that tells anything.
 fn play(
     rt: &HostRuntime,
-    t: Stand,
+    t: &mut Stand,
     bytes: &[i8],
     words: Words,
     lent: &mut Lent,
     out: &mut [u8; 65536],
-) -> Result<Stand, Failed> {
-    let mut q = t;
+) -> Result<(), Failed> {
     let mut from = 0;
     'turns: for _ in 0..bytes.len() / 2 {
         let answered = receiver_feed::feed(
-            q.receiver,
+            t.receiver,
             &bytes[from..],
             words.f,
             words.s,
@@ -164,76 +164,70 @@ fn play(
             &mut lent.store,
             &mut lent.soft,
         );
-        let fed = match answered {
+        let fed = match &answered {
             Ok(fed) => fed,
             Err(refused) => {
-                return Ok(Stand {
-                    over: Some(Over::Refused(refused.why)),
-                    ..q
-                });
+                t.over = Some(Over::Refused(refused.why));
+                return Ok(());
             }
         };
-        q.receiver = fed.receiver;
-        q.place = answer(rt, fed.events, fed.runs, &lent.soft, out, q.place)?;
+        t.receiver = fed.receiver;
+        t.place = answer(rt, fed.events, fed.runs, &lent.soft, out, t.place)?;
         from = onward(from, fed.used, bytes.len());
         if fed.used == 0 || bytes.len() <= from {
             break;
         }
     }
-    Ok(q)
+    Ok(())
 }
 
 // A block of the bytes behind the points; read: if more could have been read.
 fn block(
     rt: &HostRuntime,
-    t: Stand,
+    t: &mut Stand,
     bytes: &[u8],
     read: Result<(), Failed>,
     signed: &mut [i8; 65536],
     words: Words,
     lent: &mut Lent,
     out: &mut [u8; 65536],
-) -> Result<Stand, Failed> {
+) -> Result<(), Failed> {
     let h = capture::share(t.left, bytes.len());
     let m = h.count.min(bytes.len());
     let n = capture::symbols(&bytes[..m], signed).min(signed.len());
-    let q = play(rt, t, &signed[..n], words, lent, out)?;
-    let over = match (read, q.over) {
+    play(rt, t, &signed[..n], words, lent, out)?;
+    t.over = match (read, t.over) {
         (Err(_), _) => Some(Over::Unread),
         (Ok(()), Some(over)) => Some(over),
         (Ok(()), None) if h.over => Some(Over::Refused(Refusal::Bodies)),
         (Ok(()), None) => None,
     };
-    Ok(Stand {
-        left: h.left,
-        over,
-        ..q
-    })
+    t.left = h.left;
+    Ok(())
 }
 
 // The blocks after the first, up to one that is not full. A proved loop has to end, and nothing says that the input does: the turns are as many as a u64 counts, which
 // no run uses up.
 fn blocks(
     rt: &HostRuntime,
-    t: Stand,
+    t: &mut Stand,
     buf: &mut [u8; 65536],
     signed: &mut [i8; 65536],
     words: Words,
     lent: &mut Lent,
     out: &mut [u8; 65536],
-) -> Result<Stand, Failed> {
-    let mut q = t;
+) -> Result<(), Failed> {
     'blocks: for _ in 0..u64::MAX {
-        if q.over.is_some() {
+        if t.over.is_some() {
             break;
         }
         let m = system::read(rt, buf);
-        q = block(rt, q, &buf[..m.count], m.end, signed, words, lent, out)?;
+        block(rt, t, &buf[..m.count], m.end, signed, words, lent, out)?;
         if m.count < buf.len() {
             break;
         }
     }
-    Ok(q)
+    Ok(())
 }
 
 // The last line, and all that is not written yet.
@@ -261,7 +255,7 @@ fn start(points: &Points, acc: &mut [u32]) -> Result<Receiver, Refused<Receiver>
 // What a capture ends with. Where a read failed nobody knows what would have followed, so that the lines so far are the last.
 fn conclude(
     rt: &HostRuntime,
-    t: Stand,
+    t: &Stand,
     declared: u32,
     out: &mut [u8; 65536],
 ) -> Result<(), Failed> {
@@ -289,16 +283,16 @@ fn accepted(
         Ok(receiver) => receiver,
         Err(refused) => return finish(rt, Err(refused.why), 0, out),
     };
-    let t = Stand {
+    let mut t = Stand {
         receiver,
         place: 0,
         left: h.declared,
         over: None,
     };
     let from = h.from.min(m.count);
-    let a = block(
+    block(
         rt,
-        t,
+        &mut t,
         &buf[from..m.count],
         m.end,
         signed,
@@ -306,8 +300,8 @@ fn accepted(
         lent,
         out,
     )?;
-    let b = blocks(rt, a, buf, signed, h.words, lent, out)?;
-    conclude(rt, b, h.declared, out)
+    blocks(rt, &mut t, buf, signed, h.words, lent, out)?;
+    conclude(rt, &t, h.declared, out)
 }
 
 // A header that is refused by what a failed read left of it is not told.

@@ -39,7 +39,7 @@ pub struct Points {
 impl Points {
     // The numbers of the points, without the zeros behind. Bits of more than 5, which no header has, are taken for 5.
     pub fn loaded(&self) -> &[i16]
-        ensures { self.now.bits ≤ 5 → result.now ≡ take (2 * 2 ^ self.now.bits) self.now.numbers }
+        ensures { result.now ≡ take (2 * 2 ^ min self.now.bits 5) self.now.numbers }
     {
         &self.numbers[..2 << self.bits.min(5)]
     }

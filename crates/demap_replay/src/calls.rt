@@ -23,11 +23,11 @@ pub(crate) fn new(k: Kept) -> Turn
 }
 
 // What was learned, or handed in.
-fn learned(k: Kept, r: Result<Learn, Refused<Learn>>) -> Turn
-    ensures { result ≡ learned_turn k r }
+fn learned(k: Kept, r: &Result<Learn, Refused<Learn>>) -> Turn
+    ensures { result ≡ learned_turn k r.now }
 {
     match r {
-        Ok(l) => kept::turned(kept::with_learn(k, l), told::single(0, 0, 0)),
+        Ok(l) => kept::turned(kept::with_learn(k, *l), told::single(0, 0, 0)),
         Err(refused) => kept::turned(
             kept::with_learn(k, refused.state),
             told::single(refused.why.number(), 0, 0),
@@ -45,7 +45,7 @@ pub(crate) fn pilot(k: Kept, p: &[u64; 24]) -> Turn
         i16::of_bits(p[3]),
         i16::of_bits(p[4]),
     );
-    learned(k, r)
+    learned(k, &r)
 }
 
 pub(crate) fn noise(k: Kept, p: &[u64; 24]) -> Turn
@@ -57,7 +57,7 @@ pub(crate) fn noise(k: Kept, p: &[u64; 24]) -> Turn
         i16::of_bits(p[2]),
         i64::of_bits(p[3]),
     );
-    learned(k, r)
+    learned(k, &r)
 }
 
 pub(crate) fn sum(k: Kept, p: &[u64; 24]) -> Turn

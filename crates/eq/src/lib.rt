@@ -5,7 +5,7 @@ pub mod plain;
 pub mod ranged;
 
 ghost use Rattle.std.specs.Prelude.{◌≡◌};
-ghost use Rattle.eq.specs.Eq.{new_eq};
+ghost use Rattle.eq.specs.Eq.{new_eq, pushed_eq};
 ghost use Rattle.eq.specs.Answers.{restart_answer, push_answer, output_answer, open_answer, train_answer, close_answer, load_answer};
 
 use angles::Symbol;
@@ -57,13 +57,21 @@ pub fn restart(e: Equaliser) -> Result<Equaliser, Refused<Equaliser>>
     }
 }
 
+// One more symbol. Not inlined, since the compiler would then move each number of the equaliser by itself into what `push` answers.
+#[inline(never)]
+fn one_more(e: Equaliser, i: i16, q: i16) -> Equaliser
+    ensures { result ≡ pushed_eq e i q }
+{
+    plain::pushed(e, i, q)
+}
+
 // One symbol, and the output five before it once six are there.
 pub fn push(e: Equaliser, i: i16, q: i16) -> Result<Pushed, Refused<Equaliser>>
     ensures { result ≡ push_answer e i q }
 {
     match plain::range_refusal(e) {
         Ok(()) => {
-            let eq = plain::pushed(e, i, q);
+            let eq = one_more(e, i, q);
             Ok(Pushed {
                 eq,
                 out: plain::output_of(eq),

@@ -51,8 +51,8 @@ fn symbol_told(k: Kept, s: Option<Symbol>) -> [u64; 24]
     }
 }
 
-fn symbol(k: Kept, r: Result<Pushed, Refused<Equaliser>>) -> Turn
-    ensures { result ≡ symbol_call k r }
+fn symbol(k: Kept, r: &Result<Pushed, Refused<Equaliser>>) -> Turn
+    ensures { result ≡ symbol_call k r.now }
 {
     match r {
         Ok(x) => {
@@ -69,13 +69,13 @@ fn symbol(k: Kept, r: Result<Pushed, Refused<Equaliser>>) -> Turn
 pub(crate) fn push(k: Kept, p: &[u64; 24]) -> Turn
     ensures { result ≡ push_call k p.now }
 {
-    symbol(k, eq::push(k.eq, i16::of_bits(p[1]), i16::of_bits(p[2])))
+    symbol(k, &eq::push(k.eq, i16::of_bits(p[1]), i16::of_bits(p[2])))
 }
 
 pub(crate) fn output(k: Kept) -> Turn
     ensures { result ≡ output_call k }
 {
-    symbol(k, eq::output(k.eq))
+    symbol(k, &eq::output(k.eq))
 }
 
 pub(crate) fn open(k: Kept, p: &[u64; 24]) -> Turn

@@ -15,7 +15,7 @@ use Rattle.laws.specs.Choice.{when◌then◌else◌}
 use Rattle.receiver.specs.Answers.{end_answer, restart_acc, sums_ended, restart_refusal}
 use Rattle.receiver.specs.Symbol.{Lent}
 use Rattle.sums.specs.declared.Sums.{Sums}
-use Rattle.std.specs.Prelude.{Option, None, Some, is_some, unwrap_or}
+use Rattle.std.specs.Prelude.{Option, None, Some, false, is_some, unwrap_or}
 use Rattle.sync_history.specs.History.{acc_after}
 use Rattle.sync_tie.proofs.Follow.{follows}
 use Rattle.sync_tie.proofs.Theorems.{kept-fold}
@@ -33,10 +33,11 @@ record SumsTold (u : Training) (sums : Option Sums) : Type 0 where
   pub ended : is_some sums ≡ is_open u
   pub frame : (k : Sums) → sums ≡ Some k → k.frame ≡ frame_of u
   pub count : (k : Sums) → sums ≡ Some k → k.count ≡ count_of u
+  pub no_sums : is_open u ≡ false → sums ≡ None
 
 no_sums_told : SumsTold none None
 unfolding is_open
-no_sums_told = record { ended = refl; frame = λ k e. absurd (not_some k e); count = λ k e. absurd (not_some k e) }
+no_sums_told = record { ended = refl; frame = λ k e. absurd (not_some k e); count = λ k e. absurd (not_some k e); no_sums = λ e. refl }
   where
     not_some : (k : Sums) → None ≡ Some k → ⊥
     not_some k e = never (sym (ap (λ (y : Option Sums). is_some y) e))
@@ -48,6 +49,7 @@ some_sums_told frame m sums e f =
       ended = refl;
       frame = λ k q. ap (λ (y : Option Sums). (unwrap_or y sums).frame) (sym q) ∙ e;
       count = λ k q. ap (λ (y : Option Sums). (unwrap_or y sums).count) (sym q) ∙ f;
+      no_sums = λ e. absurd (never e);
     }
 
 module _ (s : System) (h : History) (t : Tied s h) where
@@ -114,6 +116,7 @@ module _ (s : System) (h : History) (t : Tied s h) where
         ended = u.ended;
         frame = u.frame;
         count = u.count;
+        no_sums = u.no_sums;
         acc = subst (Accumulated (happens h c).pushes) (sym (own-acc s h t c)) (accumulated (after_call s c) (happens h c) k.tied);
         lent = gives-lent s h t c;
       }

@@ -1,6 +1,6 @@
 -- DEMAND 3. For every list of a receiver's calls from a new one on, and for every loss in it. docs/GUARANTEE.md has it sentence by sentence beside
 -- the order and document 01.
-use Rattle.std.specs.Prelude.{ℕ, suc, ◌+◌, ◌-◌, ◌*◌, ◌/◌, ◌%◌, ◌≤◌, ◌<◌, true, false, List, [], ◌∷◌, ◌++◌, ◌⊎◌, ◌≡◌, eqb, ltb, ℤ, pos, length, get_or, replicate, Ok, Some, is_some}
+use Rattle.std.specs.Prelude.{ℕ, suc, ◌+◌, ◌-◌, ◌*◌, ◌/◌, ◌%◌, ◌≤◌, ◌<◌, true, false, List, [], ◌∷◌, ◌++◌, ◌⊎◌, ◌≡◌, eqb, ltb, ℤ, pos, length, get_or, replicate, Ok, None, Some, is_some}
 use Rattle.laws.specs.Choice.{when◌then◌else◌}
 use Rattle.laws.specs.Ranges.{firsts}
 use Rattle.sync_lock.specs.declared.Lock.{Lock}
@@ -128,6 +128,7 @@ module _ (h : History) (s : System) (c : Call) (t : Told) (rest : List Call) whe
     pub ended : is_some t.sums ≡ is_open (ended_in h c)
     pub frame : (u : Sums) → t.sums ≡ Some u → u.frame ≡ frame_of (ended_in h c)
     pub count : (u : Sums) → t.sums ≡ Some u → u.count ≡ count_of (ended_in h c)
+    pub no_sums : is_open (ended_in h c) ≡ false → t.sums ≡ None
     -- the receiver's own are those of the stretch that runs after the call
     pub acc : Accumulated (happens h c).pushes t.acc
     pub lent : t.lent ≡ lent_back c t.acc

@@ -1,6 +1,6 @@
 -- What the entries answer, and the lent slice afterwards. A refusal "returns the number and the state received; lent memory is unchanged".
 use denote.Ref.{Bor}
-use Rattle.std.specs.Prelude.{ℕ, ◌-◌, Bool, false, not, ◌||◌, List, eqb, ℤ, length, get_or, Result, Ok, Err, ⊤}
+use Rattle.std.specs.Prelude.{ℕ, ◌-◌, Bool, false, not, ◌||◌, List, [], eqb, ℤ, length, get_or, Result, Ok, Err, ⊤}
 use Rattle.std.specs.Result.{result_and, result_map_both}
 use Rattle.laws.specs.Choice.{when◌then◌else◌}
 use Rattle.refusal.specs.Refusals.{answered, written}
@@ -36,6 +36,18 @@ sets_refusal learned nominal bits = when not (eqb learned 124) || (not (eqb nomi
 unfoldable pub points_in_force : List ℤ → List ℤ → List Bool → ℕ → Result (List ℤ) Refusal
 points_in_force learned nominal flags bits =
     result_and (sets_refusal (length learned) (length nominal) bits) (Ok (set_of bits (when get_or flags (bits - 1) false then learned else nominal)))
+
+-- the part alone, nothing if refused
+abbrev pub part_or_none : Result (List ℤ) Refusal → List ℤ
+part_or_none (Ok part) = part
+part_or_none (Err _) = []
+
+unfoldable pub part_in_force : List ℤ → List ℤ → List Bool → ℕ → List ℤ
+part_in_force learned nominal flags bits = part_or_none (points_in_force learned nominal flags bits)
+
+-- the refusal of a part that was chosen so: an empty one was refused (proofs/Laws.antt, `refused_empty`)
+unfoldable pub empty_refusal : List ℤ → Result ⊤ Refusal
+empty_refusal points = when eqb (length points) 0 then Err Points else Ok tt
 
 -- the numbers that an answer lends
 abbrev pub lent : Result (Bor (List ℤ)) Refusal → Result (List ℤ) Refusal

@@ -2,7 +2,7 @@
 // and its scale. The points stand in two lent slices of 124 i16, learned and nominal, each with the sets of 1 to 5 bits in turn.
 #![tactic(auto)]
 
-mod plain;
+pub mod plain;
 pub mod ranged;
 mod refusals;
 
@@ -75,7 +75,7 @@ pub fn points_in_force<'a>(
 ) -> Result<&'a [i16], Refusal>
     ensures { lent result ≡ points_in_force learned.now nominal.now flags bits }
 {
-    refusals::sets(learned.len(), nominal.len(), bits)?;
+    plain::sets_refusal(learned.len(), nominal.len(), bits)?;
     let n = learn::ranged::labels(bits);
     let s = 2 * (n - 2);
     let e = s + 2 * n;

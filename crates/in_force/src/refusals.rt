@@ -1,6 +1,6 @@
 // Why a call is not taken, in the order of document 01's table.
 ghost use Rattle.std.specs.Prelude.{◌≡◌};
-ghost use Rattle.in_force.specs.Answers.{next_refusal, sets_refusal};
+ghost use Rattle.in_force.specs.Answers.{next_refusal};
 
 use crate::{InForce, plain};
 use learn::Learn;
@@ -17,16 +17,6 @@ pub(crate) fn next(f: InForce, l: Learn, len: usize) -> Result<(), Refusal>
     }
     if !learn::ranges::in_range(l) {
         return Err(Refusal::Arithmetic);
-    }
-    Ok(())
-}
-
-// Why there are no points of so many bits in slices of these lengths.
-pub(crate) fn sets(learned: usize, nominal: usize, bits: usize) -> Result<(), Refusal>
-    ensures { result ≡ sets_refusal learned nominal bits }
-{
-    if (learned != 124) | ((nominal != 124) | ((bits < 1) | (5 < bits))) {
-        return Err(Refusal::Points);
     }
     Ok(())
 }

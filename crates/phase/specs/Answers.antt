@@ -11,7 +11,7 @@ use Rattle.sync_heads.specs.declared.Head.{Head}
 use Rattle.phase.specs.declared.Held.{Held}
 use Rattle.phase.specs.declared.WholeSlot.{WholeSlot}
 use Rattle.phase.specs.declared.Headed.{Headed}
-use Rattle.phase.specs.declared.Corrected.{Corrected}
+use Rattle.phase.specs.declared.Answered.{Answered}
 use Rattle.phase.specs.Phase.{gain_of, begun_of, pushed_of, stored_of, due_of, corrected_of}
 use Rattle.phase.specs.Ranges.{phase_in_range, whole_in_range}
 
@@ -75,5 +75,6 @@ correct_refusal s j table store =
     else Err Table
     else Err Stores
 
-unfoldable pub correct_answer : WholeSlot → ℕ → List ℤ → List ℤ → Result Corrected (Refused WholeSlot)
-correct_answer s j table store = answered (correct_refusal s j (length table) (length store)) s (corrected_of s table store j)
+unfoldable pub correct_answer : WholeSlot → ℕ → List ℤ → List ℤ → Result Answered (Refused WholeSlot)
+correct_answer s j table store =
+    answered (correct_refusal s j (length table) (length store)) s (record { slot = s; told = corrected_of s table store j })

@@ -43,6 +43,13 @@ pub struct Corrected {
     pub y: Symbol,
 }
 
+// A symbol of a slot, and the slot as it was handed in.
+#[derive(Clone, Copy)]
+pub struct Answered {
+    pub slot: WholeSlot,
+    pub told: Corrected,
+}
+
 // What a head leaves: its own slot, begun, and the slot before, if it is to be corrected.
 #[derive(Clone, Copy)]
 pub struct Headed {
@@ -115,11 +122,14 @@ pub fn correct(
     j: usize,
     table: &[i16],
     store: &[i16],
-) -> Result<Corrected, Refused<WholeSlot>>
+) -> Result<Answered, Refused<WholeSlot>>
     ensures { result ≡ correct_answer s j table.now store.now }
 {
     match refusals::correct(s, j, table.len(), store.len()) {
-        Ok(()) => Ok(ranged::corrected(s, j, table, store)),
+        Ok(()) => Ok(Answered {
+            slot: s,
+            told: ranged::corrected(s, j, table, store),
+        }),
         Err(why) => Err(Refused { why, state: s }),
     }
 }

@@ -7,9 +7,9 @@ use Rattle.phase.specs.Phase.{symbol_at, corrected_of}
 use Rattle.phase.specs.Answers.{correct_answer}
 use Rattle.phase_range.specs.Calls.{At, at, held, pushed_all, AgreeOn}
 
--- symbol j of a slot is given, with a position below 2^62
+-- symbol j of a slot is given, with a position below 2^62, and the slot comes back
 pub record Givable (w : WholeSlot) (j : ℕ) (table store : List ℤ) : Type 0 where
-  pub given : correct_answer w j table store ≡ Ok (corrected_of w table store j)
+  pub given : correct_answer w j table store ≡ Ok (record { slot = w; told = corrected_of w table store j })
   pub place : w.head.at + j < 2 ^ 62
 
 -- symbol k of a list

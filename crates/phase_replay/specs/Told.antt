@@ -10,6 +10,7 @@ use Rattle.carrier.specs.declared.Heard.{Heard}
 use Rattle.phase.specs.declared.Held.{Held}
 use Rattle.phase.specs.declared.Headed.{Headed}
 use Rattle.phase.specs.declared.WholeSlot.{WholeSlot}
+use Rattle.phase.specs.declared.Answered.{Answered}
 use Rattle.phase.specs.declared.Corrected.{Corrected}
 use Rattle.wire.specs.Wire.{bits}
 use Rattle.fields.specs.Fields.{flag_of, four_told}
@@ -80,6 +81,6 @@ corrected_told c =
     ∷ [])
     ++ replicate 11 0
 
-unfoldable pub answered_told : Result Corrected (Refused WholeSlot) → List ℕ
-answered_told (Ok c) = corrected_told c
+unfoldable pub answered_told : Result Answered (Refused WholeSlot) → List ℕ
+answered_told (Ok a) = corrected_told a.told
 answered_told (Err x) = four_told (number_of x.why) 0 0 0

@@ -4,7 +4,7 @@ ghost use Rattle.std.specs.Prelude.{◌≡◌};
 ghost use Rattle.phase_replay.specs.Told.{rotated_told, heard_told, restarted_told, held_told, headed_told, due_told, next_told, whole_told, corrected_told, answered_told};
 
 use carrier::{Heard, Nco, Rotated};
-use phase::{Corrected, Headed, Held, WholeSlot};
+use phase::{Answered, Corrected, Headed, Held, WholeSlot};
 use refusal::{Refusal, Refused};
 use wire::Field;
 
@@ -129,11 +129,11 @@ fn corrected(c: Corrected) -> [u64; 24]
 }
 
 // Nothing is told of a refused symbol but the number.
-pub(crate) fn answered(r: Result<Corrected, Refused<WholeSlot>>) -> [u64; 24]
+pub(crate) fn answered(r: Result<Answered, Refused<WholeSlot>>) -> [u64; 24]
     ensures { result ≡ answered_told r }
 {
     match r {
-        Ok(c) => corrected(c),
+        Ok(a) => corrected(a.told),
         Err(x) => fields::four(x.why.number(), 0, 0, 0),
     }
 }

@@ -45,7 +45,7 @@ struct Taken {
 fn taken_of(answer: Result<Fed, Refused<Receiver>>) -> Taken
     ensures { result ≡ taken_in answer }
 {
-    match answer {
+    match &answer {
         Ok(a) => Taken {
             receiver: a.receiver,
             used: a.used,
@@ -59,8 +59,10 @@ fn taken_of(answer: Result<Fed, Refused<Receiver>>) -> Taken
     }
 }
 
-fn left_of(answer: Result<Answer, Refused<Receiver>>) -> Begun
-    ensures { result ≡ left_in answer }
+// Not inlined, since the compiler would then move each number of the receiver by itself.
+#[inline(never)]
+fn left_of(answer: &Result<Answer, Refused<Receiver>>) -> Begun
+    ensures { result ≡ left_in answer.now }
 {
     match answer {
         Ok(a) => Begun {
@@ -77,8 +79,8 @@ fn left_of(answer: Result<Answer, Refused<Receiver>>) -> Begun
 fn state(answer: Result<Receiver, Refused<Receiver>>) -> Receiver
     ensures { result ≡ state_after answer }
 {
-    match answer {
-        Ok(r) => r,
+    match &answer {
+        Ok(r) => *r,
         Err(x) => x.state,
     }
 }
@@ -88,9 +90,9 @@ fn begin(bits: u8, points: &[i16], k: i64, acc: &mut [u32]) -> Begun
     ensures { (result ≡ begun_of bits points.now k acc.old) × (acc.new ≡ new_acc acc.old) }
 {
     let r = state(receiver::new(0, 0, acc));
-    match receiver::load_points(r, bits, points, k) {
+    match &receiver::load_points(r, bits, points, k) {
         Ok(r) => Begun {
-            receiver: r,
+            receiver: *r,
             refusal: 0,
         },
         Err(x) => Begun {
@@ -175,7 +177,7 @@ pub extern "C" fn measure_symbols(
     let mut refusal = b.refusal;
     let m = bytes.len() / 2;
     for i in 0..m {
-        let x = left_of(receiver_symbol::symbol(
+        let x = left_of(&receiver_symbol::symbol(
             r,
             bytes[2 * i],
             bytes[2 * i + 1],

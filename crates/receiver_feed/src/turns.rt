@@ -10,10 +10,10 @@ use receiver::{Answer, Receiver};
 use refusal::{Refusal, Refused};
 
 // How an accepted symbol leaves the feed.
-fn goes(a: Answer) -> Goes
-    ensures { result ≡ goes_by a }
+fn goes(a: &Answer) -> Goes
+    ensures { result ≡ goes_by a.now }
 {
-    if receiver::told::tells(a) {
+    if receiver::told::tells(*a) {
         Goes::Told(a.events, a.runs)
     } else {
         Goes::On
@@ -21,9 +21,9 @@ fn goes(a: Answer) -> Goes
 }
 
 // Symbol i was given to its call.
-fn told(answer: Result<Answer, Refused<Receiver>>, i: usize) -> Turn
+fn told(answer: &Result<Answer, Refused<Receiver>>, i: usize) -> Turn
     requires { i < 2 ^ 63 }
-    ensures { result ≡ told_by answer i }
+    ensures { result ≡ told_by answer.now i }
 {
     match answer {
         Ok(a) => Turn {
@@ -64,7 +64,7 @@ fn single(
 {
     match ready::refusal(r) {
         Ok(()) => told(
-            receiver_symbol::ranged::known(
+            &receiver_symbol::ranged::known(
                 r,
                 bytes[2 * i],
                 bytes[2 * i + 1],

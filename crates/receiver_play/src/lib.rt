@@ -32,7 +32,7 @@ pub struct Played {
 pub fn of_feed(answer: Result<Fed, Refused<Receiver>>) -> Played
     ensures { result ≡ played_of answer }
 {
-    match answer {
+    match &answer {
         Ok(a) => Played {
             used: a.used,
             receiver: a.receiver,
@@ -41,7 +41,7 @@ pub fn of_feed(answer: Result<Fed, Refused<Receiver>>) -> Played
                 runs: a.runs,
             }),
         },
-        Err(x) => refused_at(x, 0),
+        Err(x) => refused_at(*x, 0),
     }
 }
 

@@ -8,7 +8,8 @@ use crate::{Played, refused_at, still, taken_at};
 use receiver::{Answer, Receiver};
 use refusal::Refused;
 
-// Symbol i of the block.
+// Symbol i of the block. Not inlined, as `leave`.
+#[inline(never)]
 fn one(
     r: Receiver,
     i: usize,
@@ -25,6 +26,14 @@ fn one(
         × (lent_of acc.new store.new soft.new ≡ symbol_lent r (input_at (block x.now f s table.now) i) (lent_of acc.old store.old soft.old)) }
 {
     receiver_symbol::symbol(r, x[2 * i], x[2 * i + 1], f, s, table, acc, store, soft)
+}
+
+// The receiver that an answer leaves, put in the place of q. Not inlined, since the compiler would then move each number of the receiver by itself.
+#[inline(never)]
+fn leave(a: &Answer, q: &mut Receiver)
+    ensures { q.new ≡ a.now.receiver }
+{
+    *q = a.receiver;
 }
 
 // The first n symbols of the block, or as many as are quiet and one more.
@@ -45,15 +54,15 @@ pub fn play(
 {
     let mut q = r;
     for i in 0..n {
-        match one(q, i, x, f, s, table, acc, store, soft) {
+        match &one(q, i, x, f, s, table, acc, store, soft) {
             Ok(a) => {
-                if receiver::told::tells(a) {
-                    return taken_at(a, i + 1);
+                if receiver::told::tells(*a) {
+                    return taken_at(*a, i + 1);
                 }
-                q = a.receiver;
+                leave(a, &mut q);
             }
             Err(refused) => {
-                return refused_at(refused, i);
+                return refused_at(*refused, i);
             }
         }
     }

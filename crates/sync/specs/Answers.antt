@@ -13,9 +13,9 @@ use Rattle.sync.specs.declared.SlotSync.{SlotSync}
 use Rattle.sync.specs.declared.Pushed.{Pushed}
 use Rattle.sync.specs.Sync.{window_after, started_sync, stored_of, kept_window, symbol_of}
 
--- ---- a new sync: refused where the accumulators are not 9,296
-unfoldable pub new_answer : ℕ → List ℕ → Result SlotSync Refusal
-new_answer at acc = when eqb (length acc) 9296 then Ok (started_sync at None) else Err Stores
+-- ---- a new sync: refused where the accumulators are not 9,296, with the sync that starts there
+unfoldable pub new_answer : ℕ → List ℕ → Result SlotSync (Refused SlotSync)
+new_answer at acc = when eqb (length acc) 9296 then Ok (started_sync at None) else Err (record { why = Stores; state = started_sync at None })
 
 unfoldable pub new_acc : List ℕ → List ℕ
 new_acc acc = when eqb (length acc) 9296 then replicate (length acc) 0 else acc

@@ -27,16 +27,20 @@ pub struct Pushed {
     pub events: Events,
 }
 
-// A sync whose first symbol stands at a position.
+// A sync whose first symbol stands at a position. It is answered where it is refused too.
 #[tactic(auto, using(laws::specs::Choice::cases), unfolding(crate::specs::Answers::new_answer, crate::specs::Answers::new_acc))]
-pub fn new(at: u64, acc: &mut [u32]) -> Result<SlotSync, Refusal>
+pub fn new(at: u64, acc: &mut [u32]) -> Result<SlotSync, Refused<SlotSync>>
     ensures { (result ≡ new_answer at acc.old) × (acc.new ≡ new_acc acc.old) }
 {
+    let state = plain::started(at, None);
     if acc.len() != 9296 {
-        return Err(Refusal::Stores);
+        return Err(Refused {
+            why: Refusal::Stores,
+            state,
+        });
     }
     plain::clear(acc);
-    Ok(plain::started(at, None))
+    Ok(state)
 }
 
 // One symbol.

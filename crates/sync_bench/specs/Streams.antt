@@ -1,12 +1,11 @@
 -- Symbols one after another on a new sync at position 0.
-use Rattle.std.specs.Prelude.{ℕ, zero, suc, ◌+◌, ◌*◌, ◌/◌, List, ℤ, length, None, Result, Ok, Err}
-use Rattle.refusal.specs.Refusals.{code_of, number_of}
+use Rattle.std.specs.Prelude.{ℕ, zero, suc, ◌+◌, ◌*◌, ◌/◌, List, ℤ, length, Result, Ok, Err}
+use Rattle.refusal.specs.Refusals.{number_of}
 use Rattle.refusal.specs.declared.Refused.{Refused}
 use Rattle.sync_corr.specs.Correlate.{at}
 use Rattle.sync.specs.declared.SlotSync.{SlotSync}
 use Rattle.sync.specs.declared.Pushed.{Pushed}
 use Rattle.sync.specs.Answers.{new_answer, new_acc, push_answer, push_acc}
-use Rattle.sync.specs.Sync.{started_sync}
 use Rattle.sync_bench.specs.declared.Streamed.{Streamed}
 use Rattle.sync_bench.specs.declared.Left.{Left}
 
@@ -21,8 +20,15 @@ pub record Flow : Type 0 where
 abbrev pub flow : SlotSync → ℕ → ℕ → ℕ → List ℕ → Flow
 flow s k l n a = record { sync = s; taken = k; level = l; refusal = n; acc = a }
 
+-- what a new sync leaves, refused or not
+unfoldable pub begun_of : Result SlotSync (Refused SlotSync) → Left
+begun_of (Ok s) = record { sync = s; level = 0; refusal = 0 }
+begun_of (Err r) = record { sync = r.state; level = 0; refusal = number_of r.why }
+
 unfoldable pub new_flow : List ℕ → Flow
-new_flow acc = flow (started_sync 0 None) 0 0 (code_of (new_answer 0 acc)) (new_acc acc)
+new_flow acc =
+    let b = begun_of (new_answer 0 acc) in
+    flow b.sync 0 b.level b.refusal (new_acc acc)
 
 abbrev pub streamed : Flow → Streamed
 streamed x = record { taken = x.taken; level = x.level; refusal = x.refusal }

@@ -3,7 +3,7 @@
 #![tactic(auto)]
 
 ghost use Rattle.std.specs.Prelude.{◌≡◌};
-ghost use Rattle.sync_bench.specs.Streams.{left_of, pushed_stream, pushed_acc};
+ghost use Rattle.sync_bench.specs.Streams.{begun_of, left_of, pushed_stream, pushed_acc};
 
 use refusal::Refused;
 use sync::{Pushed, SlotSync};
@@ -50,16 +50,30 @@ fn left_by(answer: Result<Pushed, Refused<SlotSync>>) -> Left
     }
 }
 
+#[tactic(auto, unfolding(crate::specs::Streams::begun_of))]
+fn begun(answer: Result<SlotSync, Refused<SlotSync>>) -> Left
+    ensures { result ≡ begun_of answer }
+{
+    match answer {
+        Ok(s) => Left {
+            sync: s,
+            level: 0,
+            refusal: 0,
+        },
+        Err(r) => Left {
+            sync: r.state,
+            level: 0,
+            refusal: r.why.number(),
+        },
+    }
+}
+
 // A new sync takes a stream symbol by symbol. Accumulators that `new` refuses, each symbol refuses too.
 #[unsafe(no_mangle)]
 pub extern "C" fn measure_push(sy: &[i16], words: Words, acc: &mut [u32]) -> Streamed
     ensures { (result ≡ pushed_stream sy.now words.f words.w acc.old) × (acc.new ≡ pushed_acc sy.now words.f words.w acc.old) }
 {
-    let mut t = Left {
-        sync: sync::plain::started(0, None),
-        level: 0,
-        refusal: refusal::code(&sync::new(0, acc)),
-    };
+    let mut t = begun(sync::new(0, acc));
     let m = sy.len() / 2;
     for k in 0..m {
         t = left_by(sync::push(t.sync, sy[2 * k], sy[2 * k + 1], words.f, words.w, acc));

@@ -1,5 +1,5 @@
 -- Calls keep a slot sync coherent, so its numbers stay in range and no call is refused with 6. Assumes nothing.
-use Rattle.std.specs.Prelude.{Option, None, Some, Result, Ok, Err, IfOk, is_some, ⊤}
+use Rattle.std.specs.Prelude.{Option, None, Some, Result, Ok, Err, is_some, ⊤}
 use Rattle.sync_heads.specs.declared.SlotNumber.{SlotNumber}
 use Prim.Native.Nat.{◌+◌, ◌<◌, ◌^◌, ◌≤◌, suc, ℕ}
 use Rattle.laws.proofs.Tests.{and_both, if_both, if_either, never}
@@ -41,8 +41,11 @@ use native.Mathlib.Omega.{arith}
 use Rattle.sync_range.specs.Calls.{push, restart}
 
 -- ---- a new sync, and one restarted: at any position
-pub new_coherent : (b : Bound) (at : ℕ) → Coherent b (started_sync at None)
-new_coherent b at = started_coherent b at None never-fits
+pub new_coherent : (b : Bound) (at : ℕ) (acc : List ℕ) → Coherent b (state_after (new_answer at acc))
+unfolding new_answer
+new_coherent b at acc =
+    let c = started_coherent b at None never-fits in
+    if_both (λ (x : Result SlotSync (Refused SlotSync)). Coherent b (state_after x)) (eqb (length acc) 9296) _ _ c c
   where
     never-fits : record_in_range None ≡ true
     never-fits = unfold record_in_range in refl
@@ -188,16 +191,11 @@ keeps b =
     }
 
 pub calls_keep : CallsKeep
-unfolding new_answer
 calls_keep b at acc cs l p =
-    let k : Sound b (sync_after (started_sync at None) cs) = sound (started_sync at None) (new_coherent b at) in
-    (k, if_both (λ (x : Result SlotSync Refusal). IfOk x (λ s. Sound b (sync_after s cs))) (eqb (length acc) 9296) _ _ k tt)
-  where
-    sound : (s : SlotSync) → Coherent b s → Sound b (sync_after s cs)
-    sound s c =
-        let h = answers_coherent b s cs c p in
-        let r = coherent_in_range b (sync_after s cs) l h in
-        record { coherent = h; in_range = r; never_6 = λ c. never_6 (sync_after s cs) c r }
+    let s = sync_after (state_after (new_answer at acc)) cs in
+    let h = answers_coherent b (state_after (new_answer at acc)) cs (new_coherent b at acc) p in
+    let r = coherent_in_range b s l h in
+    record { coherent = h; in_range = r; never_6 = λ c. never_6 s c r }
 
 -- ---- the two bounds, and docs/RANGES.md's figures for them
 pub any16_short : Short any16

@@ -1,6 +1,6 @@
 -- Calls one after another, from a new sync on.
 use Rattle.sync_heads.specs.declared.FrameHead.{FrameHead}
-use Rattle.std.specs.Prelude.{◌≡◌, true, false, List, [], ◌∷◌, ℕ, ◌+◌, ◌*◌, ◌^◌, ◌≤◌, ◌<◌, ℤ, nat_abs, length, get_or, Option, None, Some, Result, Ok, Err, IfOk}
+use Rattle.std.specs.Prelude.{◌≡◌, true, false, List, [], ◌∷◌, ℕ, ◌+◌, ◌*◌, ◌^◌, ◌≤◌, ◌<◌, ℤ, nat_abs, length, get_or, Option, None, Some, Result, Ok, Err}
 use Rattle.sync_corr.specs.Correlate.{ones_of}
 use Rattle.sync_heads.specs.Ranges.{record_in_range}
 use Rattle.sync_step.specs.Step.{is_locked}
@@ -78,10 +78,9 @@ pub record Sound (b : Bound) (s : SlotSync) : Type 0 where
   -- no call on it finds a number out of range
   pub never_6 : (c : Call) → refusal_of s c ≡ Some Arithmetic → ⊥
 
--- .. that is, of what any calls leave of a new sync, which is the one that `new` answers
+-- .. that is, of any sync that `new` answers, refused or not, and any calls then leave
 abbrev pub CallsKeep : Type 0
-CallsKeep = (b : Bound) (at : ℕ) (acc : List ℕ) (cs : List Call) → Short b → CallsFit b cs →
-    Sound b (sync_after (started_sync at None) cs) × IfOk (new_answer at acc) (λ s. Sound b (sync_after s cs))
+CallsKeep = (b : Bound) (at : ℕ) (acc : List ℕ) (cs : List Call) → Short b → CallsFit b cs → Sound b (sync_after (state_after (new_answer at acc)) cs)
 
 -- ---- the figures of docs/RANGES.md, "Slot sync": correlation part, peak, sum
 pub record Figures (b : Bound) (corr peak sum : ℕ) : Type 0 where

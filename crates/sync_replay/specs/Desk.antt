@@ -1,12 +1,11 @@
 -- What each call does.
-use Rattle.std.specs.Prelude.{ℕ, zero, suc, List, length, ℤ, nat_lt, slice_index, slice_set, None, Result, Ok, Err}
+use Rattle.std.specs.Prelude.{ℕ, zero, suc, List, length, ℤ, nat_lt, slice_index, slice_set, Result, Ok, Err}
 use Rattle.laws.specs.Choice.{when◌then◌else◌}
 use Rattle.fields.specs.Fields.{ones_at}
 use Rattle.sync.specs.declared.SlotSync.{SlotSync}
-use Rattle.refusal.specs.Refusals.{code_of, number_of}
+use Rattle.refusal.specs.Refusals.{number_of}
 use Rattle.refusal.specs.declared.Refused.{Refused}
 use Rattle.sync.specs.declared.Pushed.{Pushed}
-use Rattle.sync.specs.Sync.{started_sync}
 use Rattle.sync.specs.Answers.{new_answer, restart_answer, push_answer, push_acc}
 use Rattle.sync_replay.specs.declared.desk.Desk.{Desk}
 use Rattle.sync_replay.specs.Mixing.{mixed_to}
@@ -27,15 +26,16 @@ words_of d p = record { sync = d.sync; f = ones_at p 0; s = ones_at p 48; told =
 unfoldable pub after_of : Desk → SlotSync → List ℕ → Desk
 after_of d sync answer = record { sync = sync; f = d.f; s = d.s; told = noted_of (slice_index d.told 0) answer }
 
-unfoldable pub started_of : Desk → ℕ → List ℕ → Desk
-started_of d at acc = after_of d (started_sync at None) (refused_of (code_of (new_answer at acc)))
+-- what starts a sync anew, taken or refused
+abbrev pub begun_by : Desk → Result SlotSync (Refused SlotSync) → Desk
+begun_by d (Ok s) = after_of d s (refused_of 0)
+begun_by d (Err r) = after_of d r.state (refused_of (number_of r.why))
 
-abbrev pub restarted_by : Desk → Result SlotSync (Refused SlotSync) → Desk
-restarted_by d (Ok s) = after_of d s (refused_of 0)
-restarted_by d (Err r) = after_of d r.state (refused_of (number_of r.why))
+unfoldable pub started_of : Desk → ℕ → List ℕ → Desk
+started_of d at acc = begun_by d (new_answer at acc)
 
 unfoldable pub restarted_of : Desk → ℕ → List ℕ → Desk
-restarted_of d at acc = restarted_by d (restart_answer d.sync at acc)
+restarted_of d at acc = begun_by d (restart_answer d.sync at acc)
 
 unfoldable pub handed_of : Desk → List ℕ → Desk
 handed_of d p = record { sync = state_of p; f = d.f; s = d.s; told = d.told }

@@ -1,11 +1,12 @@
 // What the calls act on, and what each does to it. Places and accumulators are lent.
-#![tactic(auto, unfolding(crate::specs::Desk::words_of, crate::specs::Desk::after_of, crate::specs::Desk::started_of, crate::specs::Desk::handed_of, crate::specs::Desk::folded_of, crate::specs::Desk::unknown_of))]
+#![tactic(auto, unfolding(crate::specs::Desk::words_of, crate::specs::Desk::after_of, crate::specs::Desk::started_of, crate::specs::Desk::restarted_of, crate::specs::Desk::handed_of, crate::specs::Desk::folded_of, crate::specs::Desk::unknown_of))]
 
 ghost use Rattle.std.specs.Prelude.{◌≡◌};
 ghost use Rattle.sync.specs.Answers.{new_acc, restart_acc, push_acc};
-ghost use Rattle.sync_replay.specs.Desk.{put_of, set_of, words_of, after_of, started_of, restarted_of, handed_of, folded_of, unknown_of, pushed_of, st, pushes_of};
+ghost use Rattle.sync_replay.specs.Desk.{put_of, set_of, words_of, after_of, begun_by, started_of, restarted_of, handed_of, folded_of, unknown_of, pushed_of, st, pushes_of};
 
 use crate::{given, mixing, told};
+use refusal::Refused;
 use sync::SlotSync;
 
 // The sync, the words in force, and the last answer with the digest before it.
@@ -57,21 +58,27 @@ fn after(d: Desk, sync: SlotSync, answer: [u64; 40]) -> Desk
     }
 }
 
+// What starts a sync anew, taken or refused.
+fn begun(d: Desk, answer: Result<SlotSync, Refused<SlotSync>>) -> Desk
+    ensures { result ≡ begun_by d answer }
+{
+    match answer {
+        Ok(s) => after(d, s, told::refused(0)),
+        Err(r) => after(d, r.state, told::refused(r.why.number())),
+    }
+}
+
 // A new sync, on accumulators that are refused too.
 pub(crate) fn started(d: Desk, at: u64, acc: &mut [u32]) -> Desk
     ensures { (result ≡ started_of d at acc.old) × (acc.new ≡ new_acc acc.old) }
 {
-    let n = refusal::code(&sync::new(at, acc));
-    after(d, sync::plain::started(at, None), told::refused(n))
+    begun(d, sync::new(at, acc))
 }
 
 pub(crate) fn restarted(d: Desk, at: u64, acc: &mut [u32]) -> Desk
     ensures { (result ≡ restarted_of d at acc.old) × (acc.new ≡ restart_acc d.sync at acc.old) }
 {
-    match sync::restart(d.sync, at, acc) {
-        Ok(s) => after(d, s, told::refused(0)),
-        Err(r) => after(d, r.state, told::refused(r.why.number())),
-    }
+    begun(d, sync::restart(d.sync, at, acc))
 }
 
 // The state of the places.

@@ -83,7 +83,7 @@ impl Field for i32 {
     ghost low = { λ u. signed (2 ^ 31) (u % 2 ^ 32) };
 
     fn to_bits(self) -> u64 {
-        i64::from(self).cast_unsigned()
+        i64::from(self).to_bits()
     }
 
     fn of_bits(u: u64) -> i32 {
@@ -97,7 +97,7 @@ impl Field for i16 {
     ghost low = { λ u. signed (2 ^ 15) (u % 2 ^ 16) };
 
     fn to_bits(self) -> u64 {
-        i64::from(self).cast_unsigned()
+        i64::from(self).to_bits()
     }
 
     fn of_bits(u: u64) -> i16 {
@@ -111,7 +111,7 @@ impl Field for i8 {
     ghost low = { λ u. signed (2 ^ 7) (u % 2 ^ 8) };
 
     fn to_bits(self) -> u64 {
-        i64::from(self).cast_unsigned()
+        i64::from(self).to_bits()
     }
 
     fn of_bits(u: u64) -> i8 {

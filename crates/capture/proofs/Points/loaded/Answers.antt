@@ -1,7 +1,6 @@
 -- `capture::Points::loaded` meets its contract. Assumes nothing.
 use mathlib.Core.Path.{◌≡◌, ap, ◌∙◌}
 use Prim.Native.Nat.{ℕ, ◌*◌, ◌^◌, ◌%◌, ◌≤◌}
-use native.Mathlib.Nat.{min-eq_left}
 use native.Mathlib.Omega.{arith}
 use lib.ListN.{take}
 use lib.Pow.{pow_mono}
@@ -16,7 +15,5 @@ shared_ref_as_front-result c =
 
 pub returns : goal.returns
 returns c =
-    λ h.
-    let b = c.args.self.now.bits in
-    let m : c.min.result ≡ b = c.min.ensures ∙ min-eq_left h in
-    ap (λ (k : ℕ). take k c.args.self.now.numbers) (rw m (few b h).0)
+    let m : c.min.result ≤ 5 = omega (arith, c.min.ensures) in
+    ap (λ (k : ℕ). take k c.args.self.now.numbers) ((few c.min.result m).0 ∙ ap (λ (b : ℕ). 2 * 2 ^ b) c.min.ensures)

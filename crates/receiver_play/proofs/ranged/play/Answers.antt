@@ -51,7 +51,7 @@ loop-i-preserved c =
     let h = c.loop-i in
     let s = c.args in
     let b = block s.x.now s.f s.s s.table.now in
-    (omega arith, c.one.auto.acc ∙ h.invariant.1, c.one.auto.store ∙ h.invariant.2, c.one.auto.soft ∙ h.invariant.3, told-on b (s.n - (h.i + 1)) (s.n - h.i) h.i h.q (lent_of h.acc h.store h.soft) _ c.in-Ok.a _ (omega (arith, c.loop-i-test.true)) h.invariant.4 (sym c.in-Ok.is ∙ c.one.ensures.0) c.one.ensures.1 (sym c.tells.ensures ∙ c.if-tells.false))
+    (omega arith, c.one.auto.acc ∙ h.invariant.1, c.one.auto.store ∙ h.invariant.2, c.one.auto.soft ∙ h.invariant.3, rw c.leave.ensures (told-on b (s.n - (h.i + 1)) (s.n - h.i) h.i h.q (lent_of h.acc h.store h.soft) _ c.in-Ok.a _ (omega (arith, c.loop-i-test.true)) h.invariant.4 (sym c.in-Ok.is ∙ c.one.ensures.0) c.one.ensures.1 (sym c.tells.ensures ∙ c.if-tells.false)))
 
 pub shape_of-acc : goal.shape_of-acc
 shape_of-acc c = c.loop-i.invariant.1

@@ -2,11 +2,10 @@
 use Rattle.std.proofs.Common.{FitsSigned, w64, to_z-of_z}
 use mir.Facts.{sfits_widen}
 use mir.Syntax.{w32}
-use Rattle.wire.proofs.Laws.{bits_read}
 use Rattle.wire.proofs.I32Field.to_bits.Goals as goal
 
 pub returns : goal.returns
 returns c =
     let f : FitsSigned w64 c.args.self = sfits_widen {w = w32} {w' = w64} tt c.ranges.self in
     let from = rw (to_z-of_z c.ranges.self) at c.from.ensures in
-    rw (rw (from, to_z-of_z f) at c.cast_unsigned.ensures) (bits_read c.args.self)
+    rw (from, to_z-of_z f) at c.to_bits.ensures
